@@ -31,7 +31,7 @@ use Rattle.acpc_format.specs.Again.{move_again, move_on, moves_again, numbered_f
 use Rattle.acpc_format.proofs.Readable.{HasBoards, HasHoles, HasLetters}
 use Rattle.acpc_format.proofs.CardsAgain.{board_again, boards_of, cut_cards, cut_holes, hole_deals, holes_again}
 use Rattle.acpc_format.proofs.Steps.{all_steps, round_steps, step_of, step_on, steps_on}
-use Rattle.first_fault.specs.Numbers.{kept_number}
+use Rattle.first_fault.specs.Numbers.{saturated}
 
 -- how many events are moves
 abbrev pub letters_in : List Said → ℕ
@@ -48,10 +48,10 @@ numbered_append n [] more = ap (λ k. numbered_from k more) (omega arith)
 numbered_append n (event ∷ some) more = by_move (is_move event) (numbered_append (n + 1) some more) (numbered_append n some more)
   where
     by_move : (moves : Bool) → numbered_from (n + 1) (some ++ more) ≡ numbered_from (n + 1) some ++ numbered_from (n + 1 + letters_in some) more → numbered_from n (some ++ more) ≡ numbered_from n some ++ numbered_from (n + letters_in some) more
-        → (if moves then (kept_number n, event) ∷ numbered_from (n + 1) (some ++ more) else (0, event) ∷ numbered_from n (some ++ more))
-        ≡ (if moves then (kept_number n, event) ∷ numbered_from (n + 1) some else (0, event) ∷ numbered_from n some) ++ numbered_from (n + (cond moves 1 0 + letters_in some)) more
+        → (if moves then (saturated n, event) ∷ numbered_from (n + 1) (some ++ more) else (0, event) ∷ numbered_from n (some ++ more))
+        ≡ (if moves then (saturated n, event) ∷ numbered_from (n + 1) some else (0, event) ∷ numbered_from n some) ++ numbered_from (n + (cond moves 1 0 + letters_in some)) more
     by_move true next same =
-        ap (λ (l : List Numbered). (kept_number n, event) ∷ l) (next
+        ap (λ (l : List Numbered). (saturated n, event) ∷ l) (next
         ∙ ap (λ k. numbered_from (n + 1) some ++ numbered_from k more) (omega arith))
     by_move false next same = ap (λ (l : List Numbered). (0, event) ∷ l) (same ∙ ap (λ k. numbered_from n some ++ numbered_from k more) (omega arith))
 
@@ -78,8 +78,8 @@ steps_append at so_far (step ∷ some) more = by_step (step_after at so_far step
 
 act_again : (no_limit : Bool) (at total : ℕ) (act : Act) (so_far : Written) → steps_after at so_far (step_of no_limit act total) ≡ Ok (with_events so_far (move_again no_limit act total))
 unfolding steps_after step_after
-act_again no_limit at total Folded so_far = written_same (so_far.events ++ (kept_number so_far.number, said.Fold None) ∷ []) (so_far.events ++ (kept_number so_far.number, said.Fold None) ∷ []) (so_far.number + 1) (so_far.number + 1) so_far.size so_far.boards refl refl
-act_again no_limit at total Called so_far = written_same (so_far.events ++ (kept_number so_far.number, said.Call None None) ∷ []) (so_far.events ++ (kept_number so_far.number, said.Call None None) ∷ []) (so_far.number + 1) (so_far.number + 1) so_far.size so_far.boards refl refl
+act_again no_limit at total Folded so_far = written_same (so_far.events ++ (saturated so_far.number, said.Fold None) ∷ []) (so_far.events ++ (saturated so_far.number, said.Fold None) ∷ []) (so_far.number + 1) (so_far.number + 1) so_far.size so_far.boards refl refl
+act_again no_limit at total Called so_far = written_same (so_far.events ++ (saturated so_far.number, said.Call None None) ∷ []) (so_far.events ++ (saturated so_far.number, said.Call None None) ∷ []) (so_far.number + 1) (so_far.number + 1) so_far.size so_far.boards refl refl
 act_again true at total Raised so_far = refl
 act_again false at total Raised so_far = refl
 act_again no_limit at total BroughtIn so_far = written_same so_far.events (so_far.events ++ []) so_far.number (so_far.number + 0) so_far.size so_far.boards (sym (append-nil so_far.events)) (omega arith)

@@ -54,7 +54,7 @@ use Rattle.acpc_format.proofs.SpelledFacts.{HasPlayOf, spelled}
 use Rattle.acpc_format.proofs.SuitsGame.{play_letters, suits_game}
 use Rattle.acpc_format.proofs.ValuesAgree.{values_agree}
 use Rattle.acpc_format.proofs.WithoutShows.{MucksHide, streets_alone, without_shows}
-use Rattle.first_fault.specs.Numbers.{kept_number}
+use Rattle.first_fault.specs.Numbers.{saturated}
 use Rattle.play_event.proofs.ScriptLaws.{said_numbered, at_end}
 use Rattle.canon_laws.proofs.LastPast.{before_fifth}
 use Rattle.hand_canon.proofs.SameTraces.{whole_same}
@@ -139,7 +139,7 @@ events_said n [] = refl
 events_said n (event ∷ rest) = by_move (is_move event) (events_said (n + 1) rest) (events_said n rest)
   where
     by_move : (b : Bool) → map (λ (e : Numbered). e.1) (numbered_from (n + 1) rest) ≡ rest → map (λ (e : Numbered). e.1) (numbered_from n rest) ≡ rest
-        → map (λ (e : Numbered). e.1) (if b then ((kept_number n, event) ∷ numbered_from (n + 1) rest) else ((0, event) ∷ numbered_from n rest)) ≡ event ∷ rest
+        → map (λ (e : Numbered). e.1) (if b then ((saturated n, event) ∷ numbered_from (n + 1) rest) else ((0, event) ∷ numbered_from n rest)) ≡ event ∷ rest
     by_move true more same = ap (λ (l : List Said). event ∷ l) more
     by_move false more same = ap (λ (l : List Said). event ∷ l) same
 

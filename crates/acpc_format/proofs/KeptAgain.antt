@@ -4,7 +4,7 @@ use Rattle.acpc_format.specs.Again.{kept_hand, kept_name, name_again}
 use Rattle.acpc_writing.specs.Names.{is_spelled_hand}
 use Rattle.acpc_reading.specs.RecordView.{NotesNames}
 use Rattle.chip_ledger.specs.Seat.{seats_of}
-use Rattle.hand_records.specs.SaidNotes.{KeepsNotes, kept_label, name_said, numbers_said, said_notes}
+use Rattle.hand_records.specs.SaidNotes.{KeepsNotes, hand_name_noted, name_said, numbers_said, said_notes}
 use Rattle.hand_records.specs.declared.notes.Notes.{Notes}
 use Rattle.acpc_format.specs.KeptNotes.{kept_in_acpc, number_spelled}
 use Rattle.hand_records.proofs.NoteLaws.{names_along, notes_same}
@@ -21,7 +21,7 @@ kept_names notes [] = refl
 kept_names notes (seat ∷ seats) = ap (λ (rest : List (Option (List ℕ))). name_again notes seat ∷ rest) (kept_names notes seats)
 
 -- the kept number of a hand
-pub hand_kept : (place : ℕ) (said : Option (List ℕ)) → option_and_then number_spelled (kept_label place said) ≡ kept_hand place said
+pub hand_kept : (place : ℕ) (said : Option (List ℕ)) → option_and_then number_spelled (hand_name_noted place said) ≡ kept_hand place said
 hand_kept place None = refl
 hand_kept place (Some text) = by_tests (bytes_eq text (decimal place)) (is_spelled_hand text) refl
   where
@@ -31,11 +31,11 @@ hand_kept place (Some text) = by_tests (bytes_eq text (decimal place)) (is_spell
     by_tests false true is = ap (λ (b : Bool). cond b (Some text) None) is
     by_tests false false is = ap (λ (b : Bool). cond b (Some text) None) is
 
-hand_label : (place : ℕ) (said : Option (List ℕ)) → kept_label place (kept_hand place said) ≡ kept_hand place said
+hand_label : (place : ℕ) (said : Option (List ℕ)) → hand_name_noted place (kept_hand place said) ≡ kept_hand place said
 hand_label place None = refl
 hand_label place (Some text) = by_tests (is_spelled_hand text) (bytes_eq text (decimal place)) refl
   where
-    by_tests : (spelled same : Bool) → bytes_eq text (decimal place) ≡ same → kept_label place (cond spelled (cond same None (Some text)) None) ≡ cond spelled (cond same None (Some text)) None
+    by_tests : (spelled same : Bool) → bytes_eq text (decimal place) ≡ same → hand_name_noted place (cond spelled (cond same None (Some text)) None) ≡ cond spelled (cond same None (Some text)) None
     by_tests true true is = refl
     by_tests true false is = ap (λ (b : Bool). cond b None (Some text)) is
     by_tests false same is = refl
@@ -47,7 +47,7 @@ keeps_said place count notes again same =
       names = names_along count again.names (name_again notes) same.names ∙ sym (kept_names notes (seats_of count));
       seats = ap (numbers_said count) same.others.seats;
       seat_count = same.others.seat_count;
-      hand = ap (kept_label place) same.hand ∙ hand_label place notes.hand ∙ sym (hand_kept place notes.hand);
+      hand = ap (hand_name_noted place) same.hand ∙ hand_label place notes.hand ∙ sym (hand_kept place notes.hand);
       texts = same.others.texts;
       year = same.others.year;
       month = same.others.month;

@@ -13,7 +13,7 @@ use Rattle.acpc_writing.specs.Spelled.{unspelled, unspelled_note}
 use Rattle.chip_ledger.specs.Seat.{seats_of}
 use Rattle.first_fault.specs.Conditions.{first_where}
 use Rattle.first_fault.specs.declared.limits.TheConstants.{MOST_HANDS}
-use Rattle.hand_records.specs.SaidNotes.{SaidNotes, kept_label, name_said, notes_of, numbers_said, said_notes}
+use Rattle.hand_records.specs.SaidNotes.{SaidNotes, hand_name_noted, name_said, notes_of, numbers_said, said_notes}
 use Rattle.hand_canon.specs.Sound.{IsSound}
 use Rattle.hand_records.specs.AllowedNotes.{AreAllowed}
 use Rattle.hand_records.specs.NoteTable.{no_texts, text_names, texts_of}
@@ -209,7 +209,7 @@ module _ (place count : ℕ) (few : place < MOST_HANDS) (a : Notes) (is : AreAll
         names = along a.names (seats_of count) (λ seat. name_kept (name_said a.names seat) (fails_at is_unspelled_name refl a.names are.names (seat - 1)));
         seats = sym (ap (numbers_said count) (none_is a.seats are.seats));
         seat_count = sym (none_is a.seat_count are.seat_count);
-        hand = number_kept (kept_label place a.hand) (sym (hand_fact place a.hand few) ∙ are.hand);
+        hand = number_kept (hand_name_noted place a.hand) (sym (hand_fact place a.hand few) ∙ are.hand);
         texts = sym are.texts;
         year = sym (none_is a.year are.year);
         month = sym (none_is a.month are.month);
@@ -239,7 +239,7 @@ module _ (place count : ℕ) (few : place < MOST_HANDS) (a : Notes) (is : AreAll
         ]);
         seats = numbers_some count a.seats unusual_is ∙ none_some (numbers_said count a.seats) (ap (λ (n : SaidNotes). n.seats) kept);
         seat_count = none_some a.seat_count (ap (λ (n : SaidNotes). n.seat_count) kept);
-        hand = hand_fact place a.hand few ∙ kept_number (kept_label place a.hand) (ap (λ (n : SaidNotes). n.hand) kept);
+        hand = hand_fact place a.hand few ∙ kept_number (hand_name_noted place a.hand) (ap (λ (n : SaidNotes). n.hand) kept);
         texts = sym (ap (λ (n : SaidNotes). n.texts) kept);
         zone = none_some a.zone (ap (λ (n : SaidNotes). n.zone) kept);
         year = none_some a.year (ap (λ (n : SaidNotes). n.year) kept);

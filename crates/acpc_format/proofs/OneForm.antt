@@ -23,7 +23,7 @@ use Rattle.chip_ledger.specs.Seat.{seats_of}
 use Rattle.chip_ledger.specs.SeatsSaid.{default_name}
 use Rattle.first_fault.proofs.DecimalDigits.{decimal_digits}
 use Rattle.first_fault.specs.declared.limits.TheConstants.{MOST_FILE_MOVES, MOST_HANDS}
-use Rattle.hand_records.specs.SaidNotes.{SaidNotes, kept_label, name_said, notes_of, numbers_said, said_notes}
+use Rattle.hand_records.specs.SaidNotes.{SaidNotes, hand_name_noted, name_said, notes_of, numbers_said, said_notes}
 use Rattle.hand_canon.specs.Sound.{IsSound}
 use Rattle.hand_records.specs.WriteRefusals.{first_refusal, refusal_from}
 use Rattle.hand_records.proofs.Refusals.{none_refused}
@@ -217,7 +217,7 @@ decimal_spelled n few =
     by_first false is alone = refl
 
 -- a line cannot write a hand number if it cannot write the one that is given
-pub hand_fact : (place : ℕ) (said : Option (List ℕ)) → place < MOST_HANDS → is_unspelled_hand said ≡ is_unspelled_hand (kept_label place said)
+pub hand_fact : (place : ℕ) (said : Option (List ℕ)) → place < MOST_HANDS → is_unspelled_hand said ≡ is_unspelled_hand (hand_name_noted place said)
 hand_fact place None few = refl
 hand_fact place (Some text) few = by_test (bytes_eq text (decimal place)) refl
   where

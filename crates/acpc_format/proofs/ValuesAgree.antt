@@ -9,7 +9,7 @@ use Rattle.hand_records.specs.NetRow.{net_of}
 use Rattle.hand_records.specs.declared.record.NetRow.{NetRow}
 use Rattle.hand_records.specs.declared.record.Stated.{Stated}
 use Rattle.hand_records.specs.declared.trace.Trace.{Trace}
-use Rattle.hand_canon.specs.Agreement.{Comparison, finish_compared, first_difference, is_different, row_compared, total_compared, value_compared, value_of, win_compared}
+use Rattle.hand_canon.specs.Agreement.{Comparison, finish_compared, first_difference, is_different, seats_compared, total_compared, value_compared, value_of, win_compared}
 use Rattle.acpc_reading.specs.RecordView.{StatesValues}
 use Rattle.acpc_reading.specs.Views.{nets_in}
 use Rattle.card_set.proofs.Integers.{not_different}
@@ -46,15 +46,15 @@ row_agrees trace row same =
     inside : (seat : ℕ) → seat - 1 < trace.setup.stacks.seats → seat - 1 < row.seats
     inside seat within = omega (arith, within, count)
 
-some_agrees : (trace : Trace) (values : Option NetRow) → is_some values ≡ true → option_map_or nets_in values [] ≡ map (value_of trace) (all_seats trace.setup) → find is_different (row_compared trace value_compared values) ≡ None
+some_agrees : (trace : Trace) (values : Option NetRow) → is_some values ≡ true → option_map_or nets_in values [] ≡ map (value_of trace) (all_seats trace.setup) → find is_different (seats_compared trace value_compared values) ≡ None
 some_agrees trace None some same = absurd (true≢false (sym some))
 some_agrees trace (Some row) some same = row_agrees trace row same
 
 -- so no statement differs
 pub values_agree : (trace : Trace) (stated : Stated) → StatesValues stated → option_map_or nets_in stated.values [] ≡ map (value_of trace) (all_seats trace.setup) → first_difference trace stated ≡ None
 values_agree trace stated states same =
-    let values = row_compared trace value_compared stated.values in
-    ap (λ finish. find is_different (row_compared trace finish_compared finish ++ (row_compared trace win_compared stated.wins ++ (total_compared trace stated.pot_total ++ values)))) states.finish
-    ∙ ap (λ wins. find is_different (row_compared trace win_compared wins ++ (total_compared trace stated.pot_total ++ values))) states.wins
+    let values = seats_compared trace value_compared stated.values in
+    ap (λ finish. find is_different (seats_compared trace finish_compared finish ++ (seats_compared trace win_compared stated.wins ++ (total_compared trace stated.pot_total ++ values)))) states.finish
+    ∙ ap (λ wins. find is_different (seats_compared trace win_compared wins ++ (total_compared trace stated.pot_total ++ values))) states.wins
     ∙ ap (λ total. find is_different (total_compared trace total ++ values)) states.pot_total
     ∙ some_agrees trace stated.values states.values same

@@ -19,7 +19,7 @@ use Rattle.hand_records.specs.declared.trace.Trace.{Trace}
 use Rattle.acpc_writing.specs.Betting.{hand_total}
 use Rattle.acpc_writing.specs.Names.{is_spelled_hand, is_spelled_name}
 use Rattle.acpc_reading.specs.Logs.{HandSaid}
-use Rattle.first_fault.specs.Numbers.{kept_number}
+use Rattle.first_fault.specs.Numbers.{saturated}
 
 -- A move as its letter says it: without its seat; a call without its chips; a raise by the chips
 -- that the seat has put in the whole hand, or by the unit in a limit game. A bring-in has no
@@ -62,7 +62,7 @@ abbrev pub numbered_from : ℕ → List Said → List Numbered
 numbered_from n [] = []
 numbered_from n (event ∷ rest) =
     if is_move event
-    then (kept_number n, event) ∷ numbered_from (n + 1) rest
+    then (saturated n, event) ∷ numbered_from (n + 1) rest
     else (0, event) ∷ numbered_from n rest
 
 -- the name if a line can write it, else no name

@@ -5,7 +5,7 @@ use Rattle.std.proofs.lemmas.Bool.{and_parts, le-leb, leb-true}
 use Rattle.std.proofs.lemmas.Bool.Decides.{nat_tests}
 use Rattle.acpc_game.specs.declared.key.GameKey.{GameKey}
 use Rattle.acpc_game.specs.declared.key.GameKey.TheVariants as keys
-use Rattle.acpc_game.specs.Keys.{most_of, key_place, has_count}
+use Rattle.acpc_game.specs.Keys.{most_of, key_order, has_count}
 use Rattle.acpc_game.specs.Games.{are_chips}
 use Rattle.chip_ledger.specs.declared.numbers.TheConstants.{MOST_CHIPS}
 
@@ -47,7 +47,7 @@ chips_within [] index all = omega arith
 chips_within (number ∷ numbers) zero all = leb-true number MOST_CHIPS (and_parts (nat_le number MOST_CHIPS) (are_chips numbers) all).0
 chips_within (number ∷ numbers) (suc index) all = chips_within numbers index (and_parts (nat_le number MOST_CHIPS) (are_chips numbers) all).1
 
-caps_key : (key : GameKey) → eqb (key_place key) 8 ≡ true → key ≡ keys.MaxRaises
+caps_key : (key : GameKey) → eqb (key_order key) 8 ≡ true → key ≡ keys.MaxRaises
 caps_key keys.Begin is = absurd (cc (is))
 caps_key keys.End is = absurd (cc (is))
 caps_key keys.Limit is = absurd (cc (is))
@@ -66,8 +66,8 @@ caps_key keys.NumHoleCards is = absurd (cc (is))
 caps_key keys.NumBoardCards is = absurd (cc (is))
 
 -- caps are four numbers of 32 bits
-pub caps_small : (key : GameKey) (numbers : List ℕ) → eqb (key_place key) 8 ≡ true → list_all (λ number. nat_le number (most_of key)) numbers ≡ true → list_all (λ number. nat_le number 4294967295) numbers ≡ true
+pub caps_small : (key : GameKey) (numbers : List ℕ) → eqb (key_order key) 8 ≡ true → list_all (λ number. nat_le number (most_of key)) numbers ≡ true → list_all (λ number. nat_le number 4294967295) numbers ≡ true
 caps_small key numbers is all = subst (λ (k : GameKey). list_all (λ number. nat_le number (most_of k)) numbers ≡ true) (caps_key key is) all
 
-pub caps_four : (key : GameKey) (count : ℕ) → eqb (key_place key) 8 ≡ true → has_count key count ≡ true → count ≡ 4
+pub caps_four : (key : GameKey) (count : ℕ) → eqb (key_order key) 8 ≡ true → has_count key count ≡ true → count ≡ 4
 caps_four key count is has = let four : eqb count 4 ≡ true = subst (λ (k : GameKey). has_count k count ≡ true) (caps_key key is) has in grind (arith, nat_tests, four)

@@ -10,9 +10,9 @@ use Rattle.chip_ledger.specs.declared.numbers.TheConstants.{MOST_CHIPS}
 use Rattle.acpc_game.specs.declared.key.GameKey.{GameKey}
 use Rattle.acpc_game.specs.declared.key.GameKey.TheVariants as keys
 use Rattle.acpc_game.specs.Forms.{form_of, is_passed_over, is_unused, key_before}
-use Rattle.acpc_game.specs.GameFile.{GameSaid, first_player, last_place}
+use Rattle.acpc_game.specs.GameFile.{GameSaid, first_player, last_seat_with}
 use Rattle.acpc_game.specs.Games.{are_chips, has_fitting_sizes}
-use Rattle.acpc_game.specs.GameText.{caps_text, chips_text, counts_text, ended, first_text, game_text, key_line, kind_text, rows_text, sizes_text, turns_text}
+use Rattle.acpc_game.specs.GameText.{caps_text, chips_text, counts_text, ended, first_text, game_text, key_line, kind_text, seat_lines, sizes_text, turns_text}
 use Rattle.acpc_game.specs.Keys.{card_key_named, chip_key_named, has_count, is_word, most_of}
 use Rattle.acpc_game.specs.SaidGames.{IsGame, are_caps}
 use Rattle.acpc_game.proofs.NumbersAgain.{are_within}
@@ -79,16 +79,16 @@ counts_are : (players : ℕ) → counts_text players ≡ text_of (count_lines pl
 unfolding counts_text key_line
 counts_are players = two_texts (number_line (codes "numPlayers") keys.NumPlayers (players ∷ [])) (number_line (codes "numRounds") keys.NumRounds (4 ∷ []))
 
-rows_are : (stacks blinds : List ℕ) → rows_text stacks blinds ≡ text_of (row_lines stacks blinds)
-unfolding rows_text key_line
+rows_are : (stacks blinds : List ℕ) → seat_lines stacks blinds ≡ text_of (row_lines stacks blinds)
+unfolding seat_lines key_line
 rows_are stacks blinds = two_texts (number_line (codes "stack") keys.Stack stacks) (number_line (codes "blind") keys.Blind blinds)
 
 chips_are : (game : GameSaid) → chips_text game ≡ text_of ((kind_line game.no_limit ∷ []) ++ (count_lines (length game.stacks) ++ row_lines game.stacks game.blinds))
 unfolding chips_text
 chips_are game =
     let players = length game.stacks in
-    both_texts (kind_line game.no_limit ∷ []) (count_lines players ++ row_lines game.stacks game.blinds) (kind_text game.no_limit) (counts_text players ++ rows_text game.stacks game.blinds) (kind_is game.no_limit)
-    (both_texts (count_lines players) (row_lines game.stacks game.blinds) (counts_text players) (rows_text game.stacks game.blinds) (counts_are players) (rows_are game.stacks game.blinds))
+    both_texts (kind_line game.no_limit ∷ []) (count_lines players ++ row_lines game.stacks game.blinds) (kind_text game.no_limit) (counts_text players ++ seat_lines game.stacks game.blinds) (kind_is game.no_limit)
+    (both_texts (count_lines players) (row_lines game.stacks game.blinds) (counts_text players) (seat_lines game.stacks game.blinds) (counts_are players) (rows_are game.stacks game.blinds))
 
 sizes_by : (no_limit : Bool) (small big : ℕ) → (if no_limit then [] else key_line (codes "raiseSize") (small ∷ small ∷ big ∷ big ∷ [])) ≡ text_of (size_lines no_limit small big)
 unfolding key_line
@@ -229,9 +229,9 @@ size_reads false blind small big fits =
     let few_big = (and_parts (nat_le 1 big) (nat_le big MOST_CHIPS) other.0).1 in
     (number_reads false (codes "raiseSize") keys.RaiseSize small (small ∷ big ∷ big ∷ []) raise_word refl refl (rw (few, few_big) refl), tt)
 
-place_within : (number : ℕ) (numbers : List ℕ) → last_place number numbers ≤ length numbers
+place_within : (number : ℕ) (numbers : List ℕ) → last_seat_with number numbers ≤ length numbers
 place_within number [] = omega arith
-place_within number (n ∷ rest) = go (last_place number rest) (nat_lt 0 (last_place number rest)) (n == number) (place_within number rest)
+place_within number (n ∷ rest) = go (last_seat_with number rest) (nat_lt 0 (last_seat_with number rest)) (n == number) (place_within number rest)
   where
     go : (place : ℕ) (later here : Bool) → place ≤ length rest → (if later then place + 1 else if here then 1 else 0) ≤ length (n ∷ rest)
     go place true here within = omega (arith, within)
@@ -240,7 +240,7 @@ place_within number (n ∷ rest) = go (last_place number rest) (nat_lt 0 (last_p
 
 -- the first player is one of few
 first_few : (blinds : List ℕ) → length blinds ≤ 10 → first_player blinds ≤ 11
-first_few blinds few = go (length blinds == 2) (last_place (greatest blinds) blinds == length blinds) (last_place (greatest blinds) blinds) (omega (arith, few, place_within (greatest blinds) blinds))
+first_few blinds few = go (length blinds == 2) (last_seat_with (greatest blinds) blinds == length blinds) (last_seat_with (greatest blinds) blinds) (omega (arith, few, place_within (greatest blinds) blinds))
   where
     go : (two last : Bool) (place : ℕ) → place ≤ 10 → (if two then 2 else if last then 1 else place + 1) ≤ 11
     go true last place within = omega arith

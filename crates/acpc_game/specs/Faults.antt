@@ -5,7 +5,7 @@ use Rattle.acpc_game.specs.declared.fault.LineFaultKind.TheVariants as whats
 use Rattle.acpc_game.specs.declared.fault.LineFault.{LineFault}
 use Rattle.acpc_game.specs.declared.fault.AcpcFault.{AcpcFault}
 use Rattle.acpc_game.specs.declared.fault.AcpcFault.TheVariants as faults
-use Rattle.first_fault.specs.Numbers.{kept_number}
+use Rattle.first_fault.specs.Numbers.{saturated}
 use Rattle.first_fault.specs.declared.stop.ReadError.{ReadError}
 use Rattle.first_fault.specs.declared.stop.ReadError.TheVariants as stops
 
@@ -23,7 +23,7 @@ fault_of (whats.TooMany quantity) line byte = faults.TooMany quantity line byte
 
 -- the fault of a line as a fault of the file
 abbrev pub fault_in_line : ℕ → LineFault → AcpcFault
-fault_in_line line fault = fault_of fault.what (kept_number line) (kept_number fault.byte)
+fault_in_line line fault = fault_of fault.what (saturated line) (saturated fault.byte)
 
 -- why a reader stopped, as a fault
 abbrev pub fault_of_stop : ReadError AcpcFault → AcpcFault

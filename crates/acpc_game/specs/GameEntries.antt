@@ -10,9 +10,9 @@ use Rattle.acpc_game.specs.declared.fault.AcpcFault.TheVariants as faults
 use Rattle.acpc_game.specs.Parts.{lines_of}
 use Rattle.acpc_game.specs.declared.key.GameKey.{GameKey}
 use Rattle.acpc_game.specs.declared.key.GameKey.TheVariants as keys
-use Rattle.acpc_game.specs.Keys.{is_word, key_place, most_of}
+use Rattle.acpc_game.specs.Keys.{is_word, key_order, most_of}
 use Rattle.acpc_game.specs.Forms.{Form, form_of, is_passed_over}
-use Rattle.first_fault.specs.Numbers.{kept_number}
+use Rattle.first_fault.specs.Numbers.{saturated}
 
 -- ---- line by line
 
@@ -24,15 +24,15 @@ pub record EntrySaid : Type 0 where
 
 -- the line does not have the form that is needed there
 abbrev pub malformed_line : {A : Type 0} → ℕ → Result A AcpcFault
-malformed_line line = Err (faults.GameShape (kept_number line) 1)
+malformed_line line = Err (faults.GameShape (saturated line) 1)
 
 -- a number on this line is too great
 abbrev pub number_too_great : {A : Type 0} → ℕ → Result A AcpcFault
-number_too_great line = Err (faults.AmountLimit (kept_number line) 1)
+number_too_great line = Err (faults.AmountLimit (saturated line) 1)
 
 -- an entry has this key; `limit` and `nolimit` count as the same key
 abbrev pub is_under_key : GameKey → EntrySaid → Bool
-is_under_key key entry = key_place entry.key == key_place key
+is_under_key key entry = key_order entry.key == key_order key
 
 -- the entry with this key, if there is one
 abbrev pub entry_under : GameKey → List EntrySaid → Option EntrySaid

@@ -11,7 +11,7 @@ use Rattle.acpc_game.specs.declared.fault.AcpcFault.TheVariants as faults
 use Rattle.acpc_game.specs.declared.key.GameKey.{GameKey}
 use Rattle.acpc_game.specs.declared.key.GameKey.TheVariants as keys
 use Rattle.acpc_game.specs.Keys.{or_else}
-use Rattle.first_fault.specs.Numbers.{kept_number}
+use Rattle.first_fault.specs.Numbers.{saturated}
 use Rattle.first_fault.specs.Conditions.{first_where}
 use Rattle.acpc_game.specs.GameEntries.{EntrySaid, entries_said, entry_under, has_key, has_no_limit, line_at, malformed_line, number_at, numbers_at}
 
@@ -75,11 +75,11 @@ is_reversed (first ∷ second ∷ []) = nat_lt first second
 is_reversed _ = false
 
 -- the last seat (from 1) whose blind is this number, or 0
-abbrev pub last_place : ℕ → List ℕ → ℕ
-last_place number [] = 0
-last_place number (blind ∷ rest) =
-    if nat_lt 0 (last_place number rest)
-    then last_place number rest + 1
+abbrev pub last_seat_with : ℕ → List ℕ → ℕ
+last_seat_with number [] = 0
+last_seat_with number (blind ∷ rest) =
+    if nat_lt 0 (last_seat_with number rest)
+    then last_seat_with number rest + 1
     else if blind == number
     then 1
     else 0
@@ -89,8 +89,8 @@ last_place number (blind ∷ rest) =
 abbrev pub first_player : List ℕ → ℕ
 first_player blinds =
     if length blinds == 2 then 2
-    else if last_place (greatest blinds) blinds == length blinds then 1
-    else last_place (greatest blinds) blinds + 1
+    else if last_seat_with (greatest blinds) blinds == length blinds then 1
+    else last_seat_with (greatest blinds) blinds + 1
 
 -- raise sizes of a limit game: a small bet in the first two rounds, a big bet in the last two
 abbrev pub are_sizes : List ℕ → Bool
@@ -189,7 +189,7 @@ game_of_entries entries = record {
 unfoldable pub game_or_fault : ℕ → List EntrySaid → Result GameSaid AcpcFault
 game_or_fault count entries =
     if is_complete entries
-    then option_map_or (λ key. Err (faults.UnsupportedGame (kept_number (line_at key entries)) 1))
+    then option_map_or (λ key. Err (faults.UnsupportedGame (saturated (line_at key entries)) 1))
     (first_unsupported entries) (Ok (game_of_entries entries))
     else malformed_line (line_of_end count entries)
 

@@ -21,14 +21,14 @@ counts_text players =
     key_line (codes "numPlayers") (players ∷ []) ++ key_line (codes "numRounds") (4 ∷ [])
 
 -- the lines with the stacks and the blinds
-unfoldable pub rows_text : List ℕ → List ℕ → List ℕ
-rows_text stacks blinds = key_line (codes "stack") stacks ++ key_line (codes "blind") blinds
+unfoldable pub seat_lines : List ℕ → List ℕ → List ℕ
+seat_lines stacks blinds = key_line (codes "stack") stacks ++ key_line (codes "blind") blinds
 
 -- the lines from the limit to the blinds
 unfoldable pub chips_text : GameSaid → List ℕ
 chips_text game =
     kind_text game.no_limit
-    ++ (counts_text (length game.stacks) ++ rows_text game.stacks game.blinds)
+    ++ (counts_text (length game.stacks) ++ seat_lines game.stacks game.blinds)
 
 -- the line with the raise sizes of a limit game
 unfoldable pub sizes_text : GameSaid → List ℕ

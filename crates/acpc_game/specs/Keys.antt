@@ -41,23 +41,23 @@ key_named word = or_else (card_key_named word) (chip_key_named word)
 
 -- the place of a key in a written file; limit and nolimit have the same place, and so do raise
 -- sizes that are used and raise sizes that are not
-abbrev pub key_place : GameKey → ℕ
-key_place keys.Begin = 0
-key_place keys.Limit = 1
-key_place keys.NoLimit = 1
-key_place keys.NumPlayers = 2
-key_place keys.NumRounds = 3
-key_place keys.Stack = 4
-key_place keys.Blind = 5
-key_place keys.RaiseSize = 6
-key_place keys.UnusedSizes = 6
-key_place keys.FirstPlayer = 7
-key_place keys.MaxRaises = 8
-key_place keys.NumSuits = 9
-key_place keys.NumRanks = 10
-key_place keys.NumHoleCards = 11
-key_place keys.NumBoardCards = 12
-key_place keys.End = 13
+abbrev pub key_order : GameKey → ℕ
+key_order keys.Begin = 0
+key_order keys.Limit = 1
+key_order keys.NoLimit = 1
+key_order keys.NumPlayers = 2
+key_order keys.NumRounds = 3
+key_order keys.Stack = 4
+key_order keys.Blind = 5
+key_order keys.RaiseSize = 6
+key_order keys.UnusedSizes = 6
+key_order keys.FirstPlayer = 7
+key_order keys.MaxRaises = 8
+key_order keys.NumSuits = 9
+key_order keys.NumRanks = 10
+key_order keys.NumHoleCards = 11
+key_order keys.NumBoardCards = 12
+key_order keys.End = 13
 
 -- the greatest number that a key takes: 32 bits for a cap, the limit of chips for any other
 abbrev pub most_of : GameKey → ℕ

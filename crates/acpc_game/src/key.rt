@@ -1,6 +1,6 @@
 //! The keys of a game file: words in capitals or small letters.
 ghost use Rattle.std.specs.Prelude.{◌≡◌};
-ghost use Rattle.acpc_game.specs.Keys.{key_place, most_of};
+ghost use Rattle.acpc_game.specs.Keys.{key_order, most_of};
 ghost use Rattle.acpc_game.specs.Keys as keys;
 
 use chip_ledger::MOST_CHIPS;
@@ -93,7 +93,7 @@ impl GameKey {
     /// The place of the key in a written file; `limit` and `nolimit` have the same place, and so do
     /// raise sizes that are used and raise sizes that are not.
     pub fn place(self) -> u8
-        ensures { result ≡ key_place self }
+        ensures { result ≡ key_order self }
     {
         match self {
             GameKey::Begin => 0,

@@ -4,7 +4,7 @@ ghost use Rattle.std.specs.Option.{option_map_or};
 ghost use Rattle.acpc_game.specs.Parts.{has_front, lines_of, parts_of};
 ghost use Rattle.acpc_game.specs.Parts as parts;
 
-use first_fault::place_of;
+use first_fault::position_of;
 use memchr::memchr;
 
 /// Whether the text begins with these bytes.
@@ -72,7 +72,7 @@ pub fn cut_at(text: &[u8], sign: u8) -> (&[u8], Option<&[u8]>)
     ensures len { length text.now
         ≡ length result.0.now + option_map_or (λ rest. 1 + length rest.now) result.1 0 }
 {
-    let len = place_of(text, sign);
+    let len = position_of(text, sign);
     if len == text.len() {
         return (text, None);
     }

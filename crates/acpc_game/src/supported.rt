@@ -192,7 +192,7 @@ pub fn opener_of(blinds: &[u64]) -> u64
     if blinds.len() == 2 {
         return 2;
     }
-    let place = last_place(greatest(blinds), blinds);
+    let place = last_seat_with(greatest(blinds), blinds);
     if place == blinds.len() {
         1
     } else {
@@ -201,14 +201,14 @@ pub fn opener_of(blinds: &[u64]) -> u64
 }
 
 // The last place (from 1) of a number, or 0.
-fn last_place(number: u64, numbers: &[u64]) -> usize
-    ensures place { result ≡ game_file.last_place number numbers.now }
+fn last_seat_with(number: u64, numbers: &[u64]) -> usize
+    ensures place { result ≡ game_file.last_seat_with number numbers.now }
     ensures within { result ≤ length numbers.now }
 {
     match numbers {
         [] => 0,
         [first, rest @ ..] => {
-            let place = last_place(number, rest);
+            let place = last_seat_with(number, rest);
             if place > 0 {
                 place + 1
             } else if *first == number {

@@ -1,6 +1,6 @@
 //! Writes a game as a game file; a game has one spelling.
 ghost use Rattle.std.specs.Prelude.{◌≡◌, ◌++◌, IfOk, OnOk};
-ghost use Rattle.acpc_game.specs.GameText.{caps_text, chips_text, counts_text, first_text, game_text, key_line, kind_text, rows_text, sizes_text, turns_text};
+ghost use Rattle.acpc_game.specs.GameText.{caps_text, chips_text, counts_text, first_text, game_text, key_line, kind_text, seat_lines, sizes_text, turns_text};
 ghost use Rattle.acpc_game.specs.GameView.{game_in};
 ghost use Rattle.chip_ledger.specs.AmountTexts.{spaced};
 
@@ -34,7 +34,7 @@ fn push_chips(alloc: Global, out: &mut Vec<u8>, game: &Game) -> Result<(), Memor
     let stacks = game.stacks.as_slice();
     push_kind(out, game.no_limit)?;
     push_counts(alloc, out, stacks.len() as u64)?;
-    push_rows(alloc, out, stacks, game.blinds.as_slice())
+    push_seat_lines(alloc, out, stacks, game.blinds.as_slice())
 }
 
 // The line that says whether the game has a limit.
@@ -60,9 +60,9 @@ fn push_counts(alloc: Global, out: &mut Vec<u8>, players: u64) -> Result<(), Mem
 }
 
 // The lines with the stacks and the blinds.
-#[tactic(auto, unfolding(crate::specs::GameText::rows_text))]
-fn push_rows(alloc: Global, out: &mut Vec<u8>, stacks: &[u64], blinds: &[u64]) -> Result<(), Memory>
-    ensures { OnOk result (out.new.items ≡ out.old.items ++ rows_text stacks.now blinds.now) }
+#[tactic(auto, unfolding(crate::specs::GameText::seat_lines))]
+fn push_seat_lines(alloc: Global, out: &mut Vec<u8>, stacks: &[u64], blinds: &[u64]) -> Result<(), Memory>
+    ensures { OnOk result (out.new.items ≡ out.old.items ++ seat_lines stacks.now blinds.now) }
 {
     push_line(alloc, out, "stack", stacks)?;
     push_line(alloc, out, "blind", blinds)

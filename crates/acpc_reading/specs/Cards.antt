@@ -17,7 +17,7 @@ use Rattle.acpc_game.specs.Faults.{wrong}
 use Rattle.acpc_game.specs.Parts.{parts_of}
 use Rattle.acpc_reading.specs.declared.step.BettingStep.{BettingStep}
 use Rattle.acpc_reading.specs.declared.step.BettingStep.TheVariants as steps
-use Rattle.first_fault.specs.Numbers.{kept_number}
+use Rattle.first_fault.specs.Numbers.{saturated}
 
 -- these cards, if there are `count` of them and all are known
 abbrev pub only_known : ℕ → List Slot → Option (List Slot)
@@ -66,7 +66,7 @@ pub record Written : Type 0 where
 abbrev pub with_letter : Written → Said → Written
 with_letter so_far move =
     record {
-      events = so_far.events ++ (kept_number so_far.number, move) ∷ [];
+      events = so_far.events ++ (saturated so_far.number, move) ∷ [];
       number = so_far.number + 1;
       size = so_far.size;
       boards = so_far.boards;

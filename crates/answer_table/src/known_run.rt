@@ -9,7 +9,7 @@ ghost use Rattle.host_io.specs.MemShelf.{shelf_files, shelf_plan};
 ghost use Rattle.host_io.specs.MemSink.{bytes_held, sink_plan};
 ghost use Rattle.host_io.specs.MemSource.{bytes_left, source_plan};
 ghost use Rattle.poker_cli.specs.Headline.{EndsOver};
-ghost use Rattle.poker_cli.specs.Run.{AsksInTurn, LacksFile, MakesHands, ReadsNothing, TellsLine, WhereTold, WritesNothing, change_of, fixed_line};
+ghost use Rattle.poker_cli.specs.Run.{AsksInTurn, LacksFile, MakesHands, PrintsLine, ReadsNothing, WhereShown, WritesNothing, change_of, fixed_line};
 
 use host_io::{MemShelf, MemSink, MemSource};
 use poker_cli::{Status, run};
@@ -31,7 +31,7 @@ pub fn run_on(
     // The answer itself: the run gives the answer of the request to these files and bytes, and if
     // it is a conversion, the headline holds.
     ensures ends { IfSome (request_said (map string_bytes words.now)) (λ request.
-        WhereTold request (Some (bytes_left input.old)) (Some (shelf_files shelf.old))
+        WhereShown request (Some (bytes_left input.old)) (Some (shelf_files shelf.old))
         (λ files bytes. EndsOver request files bytes
         (change_of (λ (sink : MemSink). Some (bytes_held sink))
         (λ (sink : MemSink). (sink_plan sink).faults) out.old out.new)
@@ -46,7 +46,7 @@ pub fn run_on(
     ensures shelf_fault { result ≡ Status.ShelfFault
         → Rose (shelf_plan shelf.old).faults (shelf_plan shelf.new).faults }
     ensures fixed_line { IfSome (fixed_line result)
-        (TellsLine (sink_plan diag.old).faults (sink_plan diag.new).faults
+        (PrintsLine (sink_plan diag.old).faults (sink_plan diag.new).faults
         (Some (bytes_held diag.old)) (Some (bytes_held diag.new))) }
     // Which devices a run leaves unchanged.
     ensures unread { ReadsNothing result → input.new ≡ input.old }

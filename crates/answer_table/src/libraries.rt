@@ -30,60 +30,60 @@ pub fn answer_to(alloc: Global, pieces: &Pieces, row: &str) -> Result<String, Me
         return string_from(alloc, "no hands");
     };
     match call {
-        "session" => told_session(alloc, &plays),
-        "report" => told_report(alloc, &plays),
-        _ => told_equity(alloc, &plays, street),
+        "session" => session_answer(alloc, &plays),
+        "report" => report_answer(alloc, &plays),
+        _ => equity_answer(alloc, &plays, street),
     }
 }
 
 // The session of hands: the number of its steps and rows, each of them, and the text.
-fn told_session(alloc: Global, plays: &[Play]) -> Result<String, Memory>
+fn session_answer(alloc: Global, plays: &[Play]) -> Result<String, Memory>
     requires sound { AllByRecursion IsSound plays.now }
     requires few { length plays.now ≤ MOST_HANDS }
 {
     let session = session(alloc, plays)?;
     let text = session_text(alloc, &session)?;
-    let mut told = String::new(alloc);
-    push_steps(&mut told, &session)?;
-    push_rows(&mut told, &session)?;
-    push_named(&mut told, "text", text.as_bytes())?;
-    Ok(told)
+    let mut answer = String::new(alloc);
+    push_steps(&mut answer, &session)?;
+    push_sessions(&mut answer, &session)?;
+    push_named(&mut answer, "text", text.as_bytes())?;
+    Ok(answer)
 }
 
 // Appends the number of steps of a session, and the hand and the name of each.
-fn push_steps(told: &mut String, session: &Session) -> Result<(), Memory> {
+fn push_steps(answer: &mut String, session: &Session) -> Result<(), Memory> {
     let steps = &session.steps;
-    try_write!(told, "{} steps", steps.len())?;
+    try_write!(answer, "{} steps", steps.len())?;
     for index in 0..steps.len() {
         let step = steps.get(index);
-        try_write!(told, ", {} {}", step.hand, step.name.as_str())?;
+        try_write!(answer, ", {} {}", step.hand, step.name.as_str())?;
     }
     Ok(())
 }
 
 // Appends the number of rows of a session, and the name and the last stack of each.
-fn push_rows(told: &mut String, session: &Session) -> Result<(), Memory> {
+fn push_sessions(answer: &mut String, session: &Session) -> Result<(), Memory> {
     let rows = &session.rows;
-    try_write!(told, ", {} rows", rows.len())?;
+    try_write!(answer, ", {} rows", rows.len())?;
     for index in 0..rows.len() {
         let row = rows.get(index);
-        try_write!(told, ", {} {}", row.name.as_str(), row.last)?;
+        try_write!(answer, ", {} {}", row.name.as_str(), row.last)?;
     }
     Ok(())
 }
 
 // The report on hands.
-fn told_report(alloc: Global, plays: &[Play]) -> Result<String, Memory>
+fn report_answer(alloc: Global, plays: &[Play]) -> Result<String, Memory>
     requires few { length plays.now ≤ MOST_HANDS }
 {
     let text = report_text(alloc, plays)?;
-    let mut told = string_from(alloc, "report")?;
-    push_named(&mut told, "text", text.as_bytes())?;
-    Ok(told)
+    let mut answer = string_from(alloc, "report")?;
+    push_named(&mut answer, "text", text.as_bytes())?;
+    Ok(answer)
 }
 
 // The equity of the first of some hands on a street, or why there is none.
-fn told_equity(alloc: Global, plays: &[Play], street: u8) -> Result<String, Memory>
+fn equity_answer(alloc: Global, plays: &[Play], street: u8) -> Result<String, Memory>
     requires sound { AllByRecursion IsSound plays.now }
 {
     let [play, ..] = plays else {
@@ -92,9 +92,9 @@ fn told_equity(alloc: Global, plays: &[Play], street: u8) -> Result<String, Memo
     match equity_of(play, street) {
         Ok(row) => {
             let text = equity_text(alloc, 1, street, play, &row)?;
-            let mut told = string_from(alloc, "equity")?;
-            push_named(&mut told, "text", &text)?;
-            Ok(told)
+            let mut answer = string_from(alloc, "equity")?;
+            push_named(&mut answer, "text", &text)?;
+            Ok(answer)
         }
         Err(NoEquity::NoStreet) => string_from(alloc, "no street"),
         Err(NoEquity::UnknownCards(seat)) => {

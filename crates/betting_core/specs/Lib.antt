@@ -1,3 +1,3 @@
 -- What the betting of a hand keeps from call to call.
-pub mod Kept
+pub mod HandNumbers
 pub mod Seen

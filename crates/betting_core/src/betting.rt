@@ -9,7 +9,7 @@ ghost use Rattle.play_event.specs.Openers.{TheSeat};
 ghost use Rattle.play_event.specs.TurnTargets.{has_targets, is_bet_due};
 ghost use Rattle.betting_numbers.specs.TurnSaid.{turn_of};
 ghost use Rattle.play_event.specs.Streets.{unit};
-ghost use Rattle.betting_core.specs.Kept.{AreOfGame, IsOfTable};
+ghost use Rattle.betting_core.specs.HandNumbers.{AreOfGame, IsOfTable};
 ghost use Rattle.betting_core.specs.Seen.{TellsLive, TellsSeats};
 ghost use Rattle.betting_core.specs.Seen.{moved_last};
 ghost use Rattle.betting_numbers.specs.Standing.{StandsFor};
@@ -42,7 +42,7 @@ pub struct Betting<V: Variant> {
 
 impl<V: Variant> Model for Betting<V> {
     ghost use Rattle.betting_numbers.specs.declared.betting_state.BettingState.{BettingState};
-    ghost use Rattle.betting_core.specs.Kept.{AreOfGame};
+    ghost use Rattle.betting_core.specs.HandNumbers.{AreOfGame};
 
     ghost Value = { BettingState };
 

@@ -5,7 +5,7 @@ ghost use Rattle.play_event.specs.Past.{Past};
 ghost use Rattle.play_event.specs.Openers.{TheSeat, blinds_opener, in_turn};
 ghost use Rattle.play_event.specs.Streets.{is_stud};
 ghost use Rattle.betting_numbers.specs.Seen.{is_move_due_seen, player_to_act_seen};
-ghost use Rattle.betting_core.specs.Kept.{AreKept, IsOfTable, IsReadyToPass, IsSameHand};
+ghost use Rattle.betting_core.specs.HandNumbers.{AreHandNumbers, IsOfTable, IsReadyToPass, IsSameHand};
 ghost use Rattle.betting_numbers.specs.Standing.{StandsFor};
 ghost use Rattle.betting_numbers.specs.UpTo.{StandsUpTo};
 ghost use Rattle.play_laws.specs.Done.{is_done};
@@ -72,7 +72,7 @@ fn stud<V: Variant>() -> bool
 pub(crate) fn pass<V: Variant>(table: &mut BettingState, over: bool, behind: Option<Seat>)
     requires { IsReadyToPass V.CODE V.STREETS table.old behind }
     ensures passed { IsPassedTo over table.old table.new }
-    ensures kept { AreKept V.STREETS table.new }
+    ensures kept { AreHandNumbers V.STREETS table.new }
 {
     if over {
         table.set_due(Due::Over);

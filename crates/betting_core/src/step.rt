@@ -6,7 +6,7 @@ ghost use Rattle.play_event.specs.Past as plays;
 ghost use Rattle.play_event.specs.Played.{act_said, move_said};
 ghost use Rattle.play_event.specs.Trace.{traced_move};
 ghost use Rattle.betting_numbers.specs.Seen.{all_in_seen};
-ghost use Rattle.betting_core.specs.Kept.{IsOfTable, IsSameHand};
+ghost use Rattle.betting_core.specs.HandNumbers.{IsOfTable, IsSameHand};
 ghost use Rattle.betting_numbers.specs.Standing.{StandsFor};
 ghost use Rattle.betting_numbers.specs.LegalMoves.{IsLegalMove, IsInTurn, IsRefused, IsAllowed, IsOfHand, IsInReach, IsFit, WhereBets, WhereUps, reason_after, past_with};
 ghost use Rattle.play_laws.specs.CardEvents.{is_card_said};

@@ -9,7 +9,7 @@ ghost use Rattle.card_places.specs.Plain.{place_of};
 ghost use Rattle.card_places.specs.Marks.{IsStreetOf};
 
 use crate::dealt_card::DealtCard;
-use card_set::{Card, Rank, place_of_rank};
+use card_set::{Card, Rank, rank_index};
 use play_event::Code;
 use variant_table::{GameTable, Size, Street, table_of};
 
@@ -54,7 +54,7 @@ impl DealTable {
     pub fn in_deck(&self, card: Card) -> bool
         ensures { result ≡ taken.is_in_deck self.now.code card }
     {
-        self.game.deck != SHORT_DECK || place_of_rank(card.rank) >= place_of_rank(Rank::Six)
+        self.game.deck != SHORT_DECK || rank_index(card.rank) >= rank_index(Rank::Six)
     }
 
     /// Whether the card was dealt face up.

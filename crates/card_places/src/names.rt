@@ -9,7 +9,7 @@ ghost use Rattle.card_set.specs.Known as known;
 ghost use Rattle.play_event.specs.Taken as taken;
 ghost use Rattle.play_event.specs.CardReasons as reasons;
 
-use card_set::{Card, CardRow, Slot, SlotRow, place_in_deck};
+use card_set::{Card, CardRow, Slot, SlotRow, index_in_deck};
 
 /// Whether both are known and the same card.
 pub fn is_one_card(a: Slot, b: Slot) -> bool
@@ -125,7 +125,7 @@ fn without_card(card: Card, names: &CardRow) -> CardRow
 pub fn is_same_card(a: Card, b: Card) -> bool
     ensures { result ≡ decks.is_same_card a b }
 {
-    place_in_deck(a) == place_in_deck(b)
+    index_in_deck(a) == index_in_deck(b)
 }
 
 /// The cards as known slots: the form in which a script's event names cards.

@@ -91,16 +91,16 @@ top_highest mask top k some small is set =
     ]
 
 -- a mask without a bit
-pub cleared : (mask place k : ℕ) → mask < 2 ^ 16 → place < 16 → bit_at (bit_and mask (bit_not w16 (1 * 2 ^ place % 2 ^ 16))) k ≡ cond (place == k) 0 (bit_at mask k)
-cleared mask place k small within = by_test (place == k) refl
+pub cleared : (mask index k : ℕ) → mask < 2 ^ 16 → index < 16 → bit_at (bit_and mask (bit_not w16 (1 * 2 ^ index % 2 ^ 16))) k ≡ cond (index == k) 0 (bit_at mask k)
+cleared mask index k small within = by_test (index == k) refl
   where
-    by_test : (b : Bool) → (place == k) ≡ b → bit_at (bit_and mask (bit_not w16 (1 * 2 ^ place % 2 ^ 16))) k ≡ cond b 0 (bit_at mask k)
-    by_test true is = ap (bit_at (bit_and mask (bit_not w16 (1 * 2 ^ place % 2 ^ 16)))) (sym (eqb-true place k is)) ∙ bit_at_clear_same w16 mask place within
+    by_test : (b : Bool) → (index == k) ≡ b → bit_at (bit_and mask (bit_not w16 (1 * 2 ^ index % 2 ^ 16))) k ≡ cond b 0 (bit_at mask k)
+    by_test true is = ap (bit_at (bit_and mask (bit_not w16 (1 * 2 ^ index % 2 ^ 16)))) (sym (eqb-true index k is)) ∙ bit_at_clear_same w16 mask index within
     by_test false is = elim (cases_lt k 16) [
-      | inl few ↦ bit_at_clear_other w16 mask place within k few (λ same. eqb-false place k is (sym same))
+      | inl few ↦ bit_at_clear_other w16 mask index within k few (λ same. eqb-false index k is (sym same))
       | inr many ↦
           let none = bit_at_above mask 16 k small many in
-          bit_at_and mask (bit_not w16 (1 * 2 ^ place % 2 ^ 16)) k ∙ omega arith
+          bit_at_and mask (bit_not w16 (1 * 2 ^ index % 2 ^ 16)) k ∙ omega arith
     ]
 
 -- a mask that is shifted down
@@ -117,6 +117,6 @@ or_four c d h s small_c small_d small_h small_s =
     omega (arith, or_lt 13 (bit_or (bit_or c d) h) s (or_lt 13 (bit_or c d) h (or_lt 13 c d small_c small_d) small_h) small_s)
 
 -- only small places are set
-pub place_within : (mask place : ℕ) → mask < 2 ^ 16 → bit_at mask place ≡ 1 → place < 16
-place_within mask place small set =
-    elim (cases_lt place 16) [ inl within ↦ within | inr past ↦ absurd (omega (arith, bit_at_above mask 16 place small past)) ]
+pub place_within : (mask index : ℕ) → mask < 2 ^ 16 → bit_at mask index ≡ 1 → index < 16
+place_within mask index small set =
+    elim (cases_lt index 16) [ inl within ↦ within | inr past ↦ absurd (omega (arith, bit_at_above mask 16 index small past)) ]

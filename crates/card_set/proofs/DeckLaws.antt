@@ -1,4 +1,4 @@
--- Each place of the deck is that of one card.
+-- Each index of the deck is that of one card.
 use Rattle.std.proofs.Common.{◌≡◌, ◌<◌, true, Some, refl, sym, ◌∙◌, ap, arith, slice_get}
 use Rattle.std.proofs.lemmas.Bool.{eqb-true, eq-eqb}
 use Rattle.card_set.specs.declared.card.Card.{Card}
@@ -6,7 +6,7 @@ use Rattle.card_set.specs.declared.card.Rank.{Rank}
 use Rattle.card_set.specs.declared.card.Rank.TheVariants as ranks
 use Rattle.card_set.specs.declared.card.Suit.{Suit}
 use Rattle.card_set.specs.declared.card.Suit.TheVariants as suits
-use Rattle.card_set.specs.Deck.{ranks_below, suits_before, deck_place, is_same_card, all_ranks, all_suits}
+use Rattle.card_set.specs.Deck.{ranks_below, suits_before, deck_index, is_same_card, all_ranks, all_suits}
 
 -- the rank with this number of ranks below it
 rank_at : (rank : Rank) → slice_get all_ranks (ranks_below rank) ≡ Some rank
@@ -49,9 +49,9 @@ suits_same a b same =
     let read : Some a ≡ Some b = sym (suit_at a) ∙ ap (slice_get all_suits) same ∙ suit_at b in
     cc
 
--- cards with the same place in the deck are the same
-pub deck_place-same : (a b : Card) → deck_place a ≡ deck_place b → a ≡ b
-deck_place-same a b same =
+-- cards with the same index in the deck are the same
+pub deck_index-same : (a b : Card) → deck_index a ≡ deck_index b → a ≡ b
+deck_index-same a b same =
     let few_a = suits_before-few a.suit in
     let few_b = suits_before-few b.suit in
     let rank : a.rank ≡ b.rank = ranks_same a.rank b.rank (omega (arith, same, few_a, few_b)) in
@@ -60,8 +60,8 @@ deck_place-same a b same =
 
 -- the test for one card is true only for this card
 pub is_same_card-true : (a b : Card) → is_same_card a b ≡ true → a ≡ b
-is_same_card-true a b same = deck_place-same a b (eqb-true (deck_place a) (deck_place b) same)
+is_same_card-true a b same = deck_index-same a b (eqb-true (deck_index a) (deck_index b) same)
 
 -- a card is the same as itself
 pub is_same_card-self : (a : Card) → is_same_card a a ≡ true
-is_same_card-self a = eq-eqb (deck_place a) (deck_place a) refl
+is_same_card-self a = eq-eqb (deck_index a) (deck_index a) refl

@@ -10,28 +10,28 @@ use Rattle.card_set.specs.declared.card.Card.{Card}
 use Rattle.card_set.specs.declared.card.Rank.{Rank}
 use Rattle.card_set.specs.declared.set.CardSet.{CardSet}
 use Rattle.card_set.specs.CardSet.{AreSameCards, count_of, every_card, is_in, is_one_of, listed, IsListing}
-use Rattle.card_set.specs.Deck.{deck_place, is_same_card}
+use Rattle.card_set.specs.Deck.{deck_index, is_same_card}
 use Rattle.card_set.specs.Different.{Lacks, AllDifferent}
 use Rattle.card_set.specs.Filler.{filler_card}
 use Rattle.card_set.specs.Ranks.{falling_heights, occurring, ranks_of, times}
 use Rattle.card_set.proofs.BitLaws.{ranks_below-few}
-use Rattle.card_set.proofs.DeckLaws.{deck_place-same, is_same_card-true, suits_before-few}
+use Rattle.card_set.proofs.DeckLaws.{deck_index-same, is_same_card-true, suits_before-few}
 use Rattle.card_set.proofs.Counting.{count_by-cons, count_by-map, counted_never, range_once}
 use Rattle.card_set.proofs.Lists.{filter-agree}
 use Rattle.card_set.proofs.Sums.{sum_by-plus, sum_by-same}
 use Rattle.card_set.proofs.Tests.{and_false, passes_or_not, true_false}
 
 -- the places of the 52 cards are all places
-places : map deck_place every_card ≡ range_with_len 0 52
+places : map deck_index every_card ≡ range_with_len 0 52
 unfolding every_card
 places = refl
 
 -- each card is once in the deck
-deck_once : (card : Card) → deck_place card < 52 → count_by (is_same_card card) every_card ≡ 1
+deck_once : (card : Card) → deck_index card < 52 → count_by (is_same_card card) every_card ≡ 1
 deck_once card within =
-    sym (count_by-map (λ k. deck_place card == k) deck_place every_card)
-    ∙ ap (count_by (λ k. deck_place card == k)) places
-    ∙ range_once (deck_place card) 0 52 (omega arith) within
+    sym (count_by-map (λ k. deck_index card == k) deck_index every_card)
+    ∙ ap (count_by (λ k. deck_index card == k)) places
+    ∙ range_once (deck_index card) 0 52 (omega arith) within
 
 -- a card that is not among others is counted 0 times among them
 not_counted : (card : Card) (cards : List Card) → is_one_of card cards ≡ false → count_by (is_same_card card) cards ≡ 0
@@ -41,11 +41,11 @@ not_counted card (other ∷ rest) absent = by_tests (is_same_card other card) re
     by_tests : (a : Bool) → is_same_card other card ≡ a → (b : Bool) → is_one_of card rest ≡ b → (a || b) ≡ false → (is_one_of card rest ≡ false → count_by (is_same_card card) rest ≡ 0) → count_by (is_same_card card) (other ∷ rest) ≡ 0
     by_tests true is b is_b none others = absurd (true_false none)
     by_tests false is b is_b none others =
-        let off : is_same_card card other ≡ false = ne_eqb (deck_place card) (deck_place other) (λ same. true_false (sym (eq-eqb (deck_place other) (deck_place card) (sym same)) ∙ is)) in
+        let off : is_same_card card other ≡ false = ne_eqb (deck_index card) (deck_index other) (λ same. true_false (sym (eq-eqb (deck_index other) (deck_index card) (sym same)) ∙ is)) in
         let here = ap (λ (t : Bool). cond {A = ℕ} t 1 0) off in
         omega (arith, count_by-cons (is_same_card card) other rest, here, others (is_b ∙ none))
 
-pub in_deck : (card : Card) → deck_place card < 52 → is_one_of card every_card ≡ true
+pub in_deck : (card : Card) → deck_index card < 52 → is_one_of card every_card ≡ true
 in_deck card within =
     elim (passes_or_not (is_one_of card every_card)) [
       | inl is ↦ is
@@ -94,29 +94,29 @@ kept_different p (card ∷ rest) different = by_test (p card) (kept_different p 
     by_test true is = (kept_lacks p card rest different.0, is)
     by_test false is = is
 
--- cards in the order of the deck, from a place on
+-- cards in the order of the deck, from a index on
 abbrev is_ordered : ℕ → List Card → Bool
 is_ordered from [] = true
-is_ordered from (card ∷ rest) = nat_le from (deck_place card) && is_ordered (deck_place card + 1) rest
+is_ordered from (card ∷ rest) = nat_le from (deck_index card) && is_ordered (deck_index card + 1) rest
 
-ordered_lacks : (card : Card) (from : ℕ) (cards : List Card) → deck_place card < from → is_ordered from cards ≡ true → Lacks card cards
+ordered_lacks : (card : Card) (from : ℕ) (cards : List Card) → deck_index card < from → is_ordered from cards ≡ true → Lacks card cards
 ordered_lacks card from [] before ordered = tt
 ordered_lacks card from (other ∷ rest) before ordered =
-    let parts = and_parts (nat_le from (deck_place other)) (is_ordered (deck_place other + 1) rest) ordered in
-    let le = leb-true from (deck_place other) parts.0 in
-    ((λ same. let at = ap deck_place same in absurd (omega arith)), ordered_lacks card (deck_place other + 1) rest (omega arith) parts.1)
+    let parts = and_parts (nat_le from (deck_index other)) (is_ordered (deck_index other + 1) rest) ordered in
+    let le = leb-true from (deck_index other) parts.0 in
+    ((λ same. let at = ap deck_index same in absurd (omega arith)), ordered_lacks card (deck_index other + 1) rest (omega arith) parts.1)
 
 ordered_different : (from : ℕ) (cards : List Card) → is_ordered from cards ≡ true → AllDifferent cards
 ordered_different from [] ordered = tt
 ordered_different from (card ∷ rest) ordered =
-    let parts = and_parts (nat_le from (deck_place card)) (is_ordered (deck_place card + 1) rest) ordered in
-    (ordered_lacks card (deck_place card + 1) rest (omega arith) parts.1, ordered_different (deck_place card + 1) rest parts.1)
+    let parts = and_parts (nat_le from (deck_index card)) (is_ordered (deck_index card + 1) rest) ordered in
+    (ordered_lacks card (deck_index card + 1) rest (omega arith) parts.1, ordered_different (deck_index card + 1) rest parts.1)
 
 deck_different : AllDifferent every_card
 unfolding every_card
 deck_different = ordered_different 0 every_card refl
 
-place_within : (card : Card) → deck_place card < 52
+place_within : (card : Card) → deck_index card < 52
 place_within card = omega (arith, ranks_below-few card.rank, suits_before-few card.suit)
 
 -- the cards of a set, in the order of the deck, list it
@@ -130,11 +130,11 @@ pub deck_length : length every_card ≡ 52
 unfolding every_card
 deck_length = refl
 
--- the card at a place of the deck
-pub deck_at : (card : Card) (place : ℕ) → deck_place card ≡ place → place < 52 → get_or every_card place filler_card ≡ card
-deck_at card place is within =
-    deck_place-same (get_or every_card place filler_card) card
-    (sym (get_or-map deck_place every_card place filler_card 0 (omega (arith, deck_length))) ∙ ap (λ (l : List ℕ). get_or l place 0) places ∙ get_or-range_with_len 0 52 place 0 within ∙ omega arith)
+-- the card at a index of the deck
+pub deck_at : (card : Card) (index : ℕ) → deck_index card ≡ index → index < 52 → get_or every_card index filler_card ≡ card
+deck_at card index is within =
+    deck_index-same (get_or every_card index filler_card) card
+    (sym (get_or-map deck_index every_card index filler_card 0 (omega (arith, deck_length))) ∙ ap (λ (l : List ℕ). get_or l index 0) places ∙ get_or-range_with_len 0 52 index 0 within ∙ omega arith)
 
 -- what passes a test among different cards is counted in the deck
 counted_step : (p : Card → Bool) (card : Card) (rest : List Card) → Lacks card rest → (other : Card) → cond {A = ℕ} (is_one_of other (card ∷ rest) && p other) 1 0 ≡ cond (is_same_card card other && p card) 1 0 + cond (is_one_of other rest && p other) 1 0

@@ -238,7 +238,7 @@ taken_along f (x ∷ xs) start (suc n) few same =
     ap (λ y. y ∷ take n xs) here ∙ ap (λ more. f start ∷ more) rest
 
 -- a list whose numbers are given by their places, counted from one
-pub taken_from_one : (f : ℕ → ℕ) (xs : List ℕ) (n : ℕ) → n ≤ length xs → ((place : ℕ) → 1 ≤ place → get_or xs (place - 1) 0 ≡ f place) → take n xs ≡ map f (range_with_len 1 n)
+pub taken_from_one : (f : ℕ → ℕ) (xs : List ℕ) (n : ℕ) → n ≤ length xs → ((index : ℕ) → 1 ≤ index → get_or xs (index - 1) 0 ≡ f index) → take n xs ≡ map f (range_with_len 1 n)
 taken_from_one f xs n few same =
     taken_along f xs 1 n few (λ k within. ap (λ j. get_or xs j 0) (omega arith) ∙ same (1 + k) (omega arith))
 
@@ -266,17 +266,17 @@ some_other p q first (suc count) each fails = by_first (p first) refl fails (som
     by_first true is fails later = or_right (q first) (list_any q (range_with_len (first + 1) count)) (later fails)
     by_first false is fails later = or_left (q first) (list_any q (range_with_len (first + 1) count)) (each first (omega arith) (omega arith) is)
 
-pub any_taken_from : (p : ℕ → Bool) (row xs : List ℕ) (start n : ℕ) → n ≤ length xs → ((k : ℕ) → get_or row (start + k) 0 ≡ get_or xs k 0) → list_any p (take n xs) ≡ list_any (λ place. p (get_or row (place - 1) 0)) (range_with_len (start + 1) n)
+pub any_taken_from : (p : ℕ → Bool) (row xs : List ℕ) (start n : ℕ) → n ≤ length xs → ((k : ℕ) → get_or row (start + k) 0 ≡ get_or xs k 0) → list_any p (take n xs) ≡ list_any (λ index. p (get_or row (index - 1) 0)) (range_with_len (start + 1) n)
 any_taken_from p row xs start zero few same = refl
 any_taken_from p row [] start (suc n) few same = absurd (omega (arith, few))
 any_taken_from p row (x ∷ xs) start (suc n) few same =
     let here : x ≡ get_or row (start + 1 - 1) 0 = sym (ap (λ k. get_or row k 0) (omega arith) ∙ same zero) in
-    let rest : list_any p (take n xs) ≡ list_any (λ place. p (get_or row (place - 1) 0)) (range_with_len (start + 1 + 1) n) =
+    let rest : list_any p (take n xs) ≡ list_any (λ index. p (get_or row (index - 1) 0)) (range_with_len (start + 1 + 1) n) =
     any_taken_from p row xs (start + 1) n (omega (arith, few)) (λ k. ap (λ j. get_or row j 0) (omega arith) ∙ same (suc k)) in
     ap (λ y. p y || list_any p (take n xs)) here ∙ ap (λ more. p (get_or row (start + 1 - 1) 0) || more) rest
 
--- some of the first numbers passes a test if the number at some place does, counted from one
-pub any_taken : (p : ℕ → Bool) (row : List ℕ) (n : ℕ) → n ≤ length row → list_any p (take n row) ≡ list_any (λ place. p (get_or row (place - 1) 0)) (range_with_len 1 n)
+-- some of the first numbers passes a test if the number at some index does, counted from one
+pub any_taken : (p : ℕ → Bool) (row : List ℕ) (n : ℕ) → n ≤ length row → list_any p (take n row) ≡ list_any (λ index. p (get_or row (index - 1) 0)) (range_with_len 1 n)
 any_taken p row n few = any_taken_from p row row 0 n few (λ k. ap (λ j. get_or row j 0) (omega arith))
 
 pub taken_index_along : (f : ℕ → ℕ) (amounts : List ℕ) (first count : ℕ) → count ≤ length amounts

@@ -5,7 +5,7 @@ use Rattle.std.proofs.lemmas.List.Elements.{filter_more, filter-append}
 use Rattle.card_set.specs.declared.card.Card.{Card}
 use Rattle.card_set.specs.declared.row.CardRow.{CardRow}
 use Rattle.card_set.specs.CardSet.{every_card, is_one_of}
-use Rattle.card_set.specs.Deck.{deck_place, is_same_card}
+use Rattle.card_set.specs.Deck.{deck_index, is_same_card}
 use Rattle.card_set.specs.Filler.{filler_card}
 use Rattle.card_set.specs.Row.{cards_of}
 use Rattle.card_set.proofs.DeckLaws.{is_same_card-true, is_same_card-self}
@@ -31,12 +31,12 @@ inserted before after items i put filler within is so_far inside others card =
         ∙ so_far card
         ∙ sym (ap (λ (b : Bool). is_one_of card (take i items) || b) apart ∙ or_false (is_one_of card (take i items)))
 
--- the card at the next place of the deck passes
-pub deck_more : (p : Card → Bool) (card : Card) (place : ℕ) (b : Bool) → deck_place card ≡ place → place < 52 → p card ≡ b → filter p (take (place + 1) every_card) ≡ filter p (take place every_card) ++ cond b (card ∷ []) []
-deck_more p card place b is within passes =
-    filter_more p every_card place filler_card (omega (arith, deck_length))
-    ∙ ap (λ (c : Card). filter p (take place every_card) ++ cond (p c) (c ∷ []) []) (deck_at card place is within)
-    ∙ ap (λ (t : Bool). filter p (take place every_card) ++ cond t (card ∷ []) []) passes
+-- the card at the next index of the deck passes
+pub deck_more : (p : Card → Bool) (card : Card) (index : ℕ) (b : Bool) → deck_index card ≡ index → index < 52 → p card ≡ b → filter p (take (index + 1) every_card) ≡ filter p (take index every_card) ++ cond b (card ∷ []) []
+deck_more p card index b is within passes =
+    filter_more p every_card index filler_card (omega (arith, deck_length))
+    ∙ ap (λ (c : Card). filter p (take index every_card) ++ cond (p c) (c ∷ []) []) (deck_at card index is within)
+    ∙ ap (λ (t : Bool). filter p (take index every_card) ++ cond t (card ∷ []) []) passes
 
 -- the first cards that pass are at most as many as all
 pub deck_first-le : (p : Card → Bool) (k : ℕ) → length (filter p (take k every_card)) ≤ length (filter p every_card)
@@ -48,6 +48,6 @@ deck_first-le p k =
 pub row_length : (row : CardRow) → length (cards_of row) ≡ row.len
 row_length row = omega (arith, length-take row.len row.cards, row.entries, row.fits)
 
--- and after the last place they are all
+-- and after the last index they are all
 pub deck_all : (p : Card → Bool) (k : ℕ) → 52 ≤ k → filter p (take k every_card) ≡ filter p every_card
 deck_all p k past = ap (filter p) (take_all k every_card (omega (arith, deck_length)))

@@ -8,12 +8,12 @@ use Rattle.card_set.specs.Deck.{ranks_below, suits_before, is_same_card, all_ran
 use Rattle.card_set.specs.Different.{AllDifferent}
 
 -- the bit of a card in a set (from 0): suit by suit, and in a suit from the two to the ace
-abbrev pub bit_place : Card → ℕ
-bit_place card = 13 * suits_before card.suit + ranks_below card.rank
+abbrev pub bit_index : Card → ℕ
+bit_index card = 13 * suits_before card.suit + ranks_below card.rank
 
 -- the card is in the set
 unfoldable pub is_in : CardSet → Card → Bool
-is_in set card = bit_at set.bits (bit_place card) == 1
+is_in set card = bit_at set.bits (bit_index card) == 1
 
 -- the 52 cards
 unfoldable pub every_card : List Card

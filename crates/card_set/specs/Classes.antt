@@ -35,10 +35,10 @@ has_no_pair height cards =
 
 -- in a list of classes from the best to the worst, the number of classes before the first that a
 -- hand has
-abbrev pub place : List Bool → ℕ
-place [] = 0
-place (true ∷ rest) = 0
-place (false ∷ rest) = 1 + place rest
+abbrev pub classes_above : List Bool → ℕ
+classes_above [] = 0
+classes_above (true ∷ rest) = 0
+classes_above (false ∷ rest) = 1 + classes_above rest
 
 -- at the first place where the lists differ, the left one is lower
 abbrev pub IsLower : List ℕ → List ℕ → Type 0

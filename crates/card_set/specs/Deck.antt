@@ -40,17 +40,17 @@ all_ranks =
 abbrev pub all_suits : List Suit
 all_suits = suits.C ∷ suits.D ∷ suits.H ∷ suits.S ∷ []
 
--- the place of a card in the deck, from 0 to 51
-abbrev pub deck_place : Card → ℕ
-deck_place card = 4 * ranks_below card.rank + suits_before card.suit
+-- the index of a card in the deck, from 0 to 51
+abbrev pub deck_index : Card → ℕ
+deck_index card = 4 * ranks_below card.rank + suits_before card.suit
 
 -- both are the same card
 abbrev pub is_same_card : Card → Card → Bool
-is_same_card a b = deck_place a == deck_place b
+is_same_card a b = deck_index a == deck_index b
 
--- the card at a place of the deck (from 0); after the last place its rank is the ace
-unfoldable pub card_placed : ℕ → Card
-card_placed place = record {
-  rank = unwrap_or (slice_get all_ranks (place / 4)) ranks.Ace;
-  suit = unwrap_or (slice_get all_suits (place % 4)) suits.S;
+-- the card at a index of the deck (from 0); after the last index its rank is the ace
+unfoldable pub card_with_index : ℕ → Card
+card_with_index index = record {
+  rank = unwrap_or (slice_get all_ranks (index / 4)) ranks.Ace;
+  suit = unwrap_or (slice_get all_suits (index % 4)) suits.S;
 }

@@ -3,7 +3,7 @@ use Rattle.std.specs.Prelude.{◌≤◌, ℕ, List, [], ◌∷◌, length}
 use Rattle.card_set.specs.declared.card.Card.{Card}
 use Rattle.card_set.specs.Different.{AllDifferent}
 use Rattle.card_set.specs.Ranks.{high_ace, low_ace, ranks_of}
-use Rattle.card_set.specs.Classes.{has_four_of_a_kind, has_full_house, has_three_of_a_kind, has_two_pair, has_one_pair, has_no_pair, place, IsBelow, IsBelowLow}
+use Rattle.card_set.specs.Classes.{has_four_of_a_kind, has_full_house, has_three_of_a_kind, has_two_pair, has_one_pair, has_no_pair, classes_above, IsBelow, IsBelowLow}
 
 -- one to four different cards
 pub record AreUpCards (cards : List Card) : Type 0 where
@@ -15,7 +15,7 @@ pub record AreUpCards (cards : List Card) : Type 0 where
 -- card
 unfoldable pub up_high_class : List Card → ℕ
 up_high_class cards =
-    place
+    classes_above
     (has_four_of_a_kind high_ace cards ∷ has_three_of_a_kind high_ace cards
     ∷ has_two_pair high_ace cards ∷ has_one_pair high_ace cards
     ∷ has_no_pair high_ace cards ∷ [])
@@ -28,7 +28,7 @@ IsWeakerUpHigh a b = IsBelow up_high_class (ranks_of high_ace) a b
 -- of a kind
 unfoldable pub low_class : List Card → ℕ
 low_class cards =
-    place
+    classes_above
     (has_no_pair low_ace cards ∷ has_one_pair low_ace cards ∷ has_two_pair low_ace cards
     ∷ has_three_of_a_kind low_ace cards ∷ has_full_house low_ace cards
     ∷ has_four_of_a_kind low_ace cards ∷ [])

@@ -1,23 +1,23 @@
-//! The place of each card in the deck: by rank from the lowest, and then by suit c, d, h, s.
+//! The order of the cards in the deck: by rank from the lowest, and then by suit c, d, h, s.
 ghost use Rattle.std.specs.Prelude.{◌≡◌, ◌<◌, slice_get, unwrap_or};
 ghost use Rattle.card_set.specs.declared.card.Rank.TheVariants as ranks;
 ghost use Rattle.card_set.specs.declared.card.Suit.TheVariants as suits;
 ghost use Rattle.card_set.specs.Deck as deck;
-ghost use Rattle.card_set.specs.Deck.{all_ranks, all_suits, deck_place, ranks_below, suits_before};
+ghost use Rattle.card_set.specs.Deck.{all_ranks, all_suits, deck_index, ranks_below, suits_before};
 
 use crate::card::{Card, Rank, Suit};
 
-/// The place of a card in the deck, from 0 to 51.
-pub fn place_in_deck(card: Card) -> u8
-    ensures place { result ≡ deck_place card }
+/// The index of a card in the deck, from 0 to 51.
+pub fn index_in_deck(card: Card) -> u8
+    ensures index { result ≡ deck_index card }
     ensures within { result < 52 }
 {
-    4 * place_of_rank(card.rank) + place_of_suit(card.suit)
+    4 * rank_index(card.rank) + suit_index(card.suit)
 }
 
 /// The number of ranks below this one; the ace is the highest.
-pub fn place_of_rank(rank: Rank) -> u8
-    ensures place { result ≡ ranks_below rank }
+pub fn rank_index(rank: Rank) -> u8
+    ensures index { result ≡ ranks_below rank }
     ensures within { result < 13 }
 {
     match rank {
@@ -38,8 +38,8 @@ pub fn place_of_rank(rank: Rank) -> u8
 }
 
 /// The number of suits before this one. It tells suits apart, but does not order hands.
-pub fn place_of_suit(suit: Suit) -> u8
-    ensures place { result ≡ suits_before suit }
+pub fn suit_index(suit: Suit) -> u8
+    ensures index { result ≡ suits_before suit }
     ensures within { result < 4 }
 {
     match suit {
@@ -50,32 +50,32 @@ pub fn place_of_suit(suit: Suit) -> u8
     }
 }
 
-/// The card at a place of the deck.
-pub fn card_at(place: u8) -> Card
-    requires { place < 52 }
-    ensures { deck_place result ≡ place }
+/// The card at an index of the deck.
+pub fn card_at(index: u8) -> Card
+    requires { index < 52 }
+    ensures { deck_index result ≡ index }
 {
-    card_placed(place)
+    card_with_index(index)
 }
 
-/// The card at a place of the deck; after the end of the deck its rank is the ace.
-#[tactic(auto, unfolding(crate::specs::Deck::card_placed))]
-pub fn card_placed(place: u8) -> Card
-    ensures card { result ≡ deck.card_placed place }
-    ensures place { place < 52 → deck_place result ≡ place }
+/// The card at an index of the deck; after the end of the deck its rank is the ace.
+#[tactic(auto, unfolding(crate::specs::Deck::card_with_index))]
+pub fn card_with_index(index: u8) -> Card
+    ensures card { result ≡ deck.card_with_index index }
+    ensures index { index < 52 → deck_index result ≡ index }
 {
     Card {
-        rank: rank_at(place / 4),
-        suit: suit_at(place % 4),
+        rank: rank_at(index / 4),
+        suit: suit_at(index % 4),
     }
 }
 
 // The rank with this number of ranks below it; after the last, the ace.
-fn rank_at(place: u8) -> Rank
-    ensures rank { result ≡ unwrap_or (slice_get all_ranks place) ranks.Ace }
-    ensures place { place < 13 → ranks_below result ≡ place }
+fn rank_at(index: u8) -> Rank
+    ensures rank { result ≡ unwrap_or (slice_get all_ranks index) ranks.Ace }
+    ensures index { index < 13 → ranks_below result ≡ index }
 {
-    match place {
+    match index {
         0 => Rank::Two,
         1 => Rank::Three,
         2 => Rank::Four,
@@ -93,11 +93,11 @@ fn rank_at(place: u8) -> Rank
 }
 
 // The suit with this number of suits before it; after the last, spades.
-fn suit_at(place: u8) -> Suit
-    ensures suit { result ≡ unwrap_or (slice_get all_suits place) suits.S }
-    ensures place { place < 4 → suits_before result ≡ place }
+fn suit_at(index: u8) -> Suit
+    ensures suit { result ≡ unwrap_or (slice_get all_suits index) suits.S }
+    ensures index { index < 4 → suits_before result ≡ index }
 {
-    match place {
+    match index {
         0 => Suit::C,
         1 => Suit::D,
         2 => Suit::H,

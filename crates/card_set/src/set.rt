@@ -2,7 +2,7 @@
 ghost use Rattle.std.specs.Prelude.{◌<◌, ◌^◌};
 
 use crate::card::{Card, Suit};
-use crate::deck::{card_at, place_of_rank, place_of_suit};
+use crate::deck::{card_at, rank_index, suit_index};
 use crate::row::CardRow;
 
 /// A set of cards.
@@ -18,7 +18,7 @@ impl CardSet {
     ghost use Rattle.std.specs.Int.{bit_at};
     ghost use Rattle.card_set.specs.declared.card.Card.{Card};
     ghost use Rattle.card_set.specs.declared.card.Rank.{Rank};
-    ghost use Rattle.card_set.specs.CardSet.{bit_place, count_of, is_in, is_one_of, listed};
+    ghost use Rattle.card_set.specs.CardSet.{bit_index, count_of, is_in, is_one_of, listed};
     ghost use Rattle.card_set.specs.Deck.{ranks_below};
     ghost use Rattle.card_set.specs.Row.{cards_of};
 
@@ -46,7 +46,7 @@ impl CardSet {
         ensures others { (other : Card) → other ≢ card
             → is_in self.new other ≡ is_in self.old other }
     {
-        self.bits |= 1 << Self::place_among_bits(card);
+        self.bits |= 1 << Self::bit_of(card);
     }
 
     /// Takes the card out of the set; nothing changes if it is not in it.
@@ -55,7 +55,7 @@ impl CardSet {
         ensures others { (other : Card) → other ≢ card
             → is_in self.new other ≡ is_in self.old other }
     {
-        self.bits &= !(1 << Self::place_among_bits(card));
+        self.bits &= !(1 << Self::bit_of(card));
     }
 
     /// The number of cards in the set.
@@ -71,7 +71,7 @@ impl CardSet {
             ≡ is_in self.now (record { rank = rank; suit = suit }) }
         ensures within { result < 2 ^ 13 }
     {
-        (self.bits >> (13 * place_of_suit(suit)) & 0x1FFF) as u16
+        (self.bits >> (13 * suit_index(suit)) & 0x1FFF) as u16
     }
 
     /// The cards of a set of at most seven, in the order of the deck.
@@ -80,8 +80,8 @@ impl CardSet {
         ensures { cards_of result ≡ listed self.now }
     {
         let mut row = CardRow::new();
-        for place in 0..52 {
-            let card = card_at(place);
+        for index in 0..52 {
+            let card = card_at(index);
             if self.has(card) {
                 row.push(card);
             }
@@ -93,14 +93,14 @@ impl CardSet {
     pub fn has(&self, card: Card) -> bool
         ensures { result ≡ is_in self.now card }
     {
-        self.bits >> Self::place_among_bits(card) & 1 == 1
+        self.bits >> Self::bit_of(card) & 1 == 1
     }
 
     // The bit of a card in a set.
-    fn place_among_bits(card: Card) -> u8
-        ensures place { result ≡ bit_place card }
+    fn bit_of(card: Card) -> u8
+        ensures index { result ≡ bit_index card }
         ensures within { result < 52 }
     {
-        13 * place_of_suit(card.suit) + place_of_rank(card.rank)
+        13 * suit_index(card.suit) + rank_index(card.rank)
     }
 }

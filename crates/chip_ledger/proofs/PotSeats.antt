@@ -7,7 +7,7 @@ use Rattle.std.proofs.lemmas.List.Kept.{AllPairs-cons, AllPairs-filter}
 use Rattle.card_set.proofs.Rising.{Rising, above_first, filter-Rising}
 use Rattle.card_set.proofs.Any.{list_any-map, list_any-filter, list_any-weaker, list_any-from_nothing}
 use Rattle.card_set.proofs.Lists.{map_nothing}
-use Rattle.chip_ledger.specs.Pots.{Stake, PlainPot, after_return, is_reached_by_all, between, joining, kept, layers, levels, may_win, pots_at, pots_of, reaching, with_dead}
+use Rattle.chip_ledger.specs.Pots.{Stake, PlainPot, after_return, is_reached_by_all, between, joining, without_returned, layers, levels, may_win, pots_at, pots_of, reaching, with_dead}
 use Rattle.chip_ledger.proofs.PotLevels.{Rising-levels, level_reached}
 use Rattle.chip_ledger.proofs.PotSums.{stake_chips}
 
@@ -70,7 +70,7 @@ unfolding after_return
 live_reached stakes h =
     list_any-weaker (λ (s : Stake). s.live) (λ (s : Stake). s.live && nat_le 0 s.chips)
     (λ s l. and_from s.live (nat_le 0 s.chips) l (le-leb 0 s.chips (omega arith)))
-    (map (kept stakes) stakes) (list_any-map (λ (s : Stake). s.live) (kept stakes) stakes ∙ h)
+    (map (without_returned stakes) stakes) (list_any-map (λ (s : Stake). s.live) (without_returned stakes) stakes ∙ h)
 
 -- if a seat is live, every pot has a seat that may win it
 pub pots_winnable : (stakes : List Stake) (dead : ℕ)

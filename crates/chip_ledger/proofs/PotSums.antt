@@ -4,7 +4,7 @@ use Rattle.std.proofs.lemmas.Bool.{cond_both, ltb-false}
 use Rattle.std.proofs.lemmas.List.Sums.{sum_by-cons}
 use Rattle.card_set.proofs.Rising.{above_first, filter-Rising}
 use Rattle.card_set.proofs.Sums.{sum_by-agree, sum_by-filter, sum_by-map, sum_by-plus, sum_by-same}
-use Rattle.chip_ledger.specs.Pots.{Stake, PlainPot, after_return, is_reached_by_all, between, folded_above, joining, kept, layers, levels, pots_at, pots_of, reaching, returned, with_dead, greatest_other}
+use Rattle.chip_ledger.specs.Pots.{Stake, PlainPot, after_return, is_reached_by_all, between, folded_above, joining, without_returned, layers, levels, pots_at, pots_of, reaching, returned, with_dead, greatest_other}
 use Rattle.chip_ledger.proofs.PotLevels.{Rising-levels, no_live_above}
 
 -- the chips of all these pots
@@ -89,8 +89,8 @@ pub after_return_sum : (stakes : List Stake)
 unfolding after_return
 after_return_sum stakes =
     let left : Stake → ℕ = λ s. s.chips - returned stakes s in
-    let mapped : stake_chips (map (kept stakes) stakes) ≡ sum_by left stakes =
-    sum_by-map (λ (s : Stake). s.chips) (kept stakes) stakes in
+    let mapped : stake_chips (map (without_returned stakes) stakes) ≡ sum_by left stakes =
+    sum_by-map (λ (s : Stake). s.chips) (without_returned stakes) stakes in
     let both = sum_by-plus left (returned stakes) stakes in
     let all : sum_by (λ s. left s + returned stakes s) stakes ≡ stake_chips stakes =
     sum_by-same (λ s. left s + returned stakes s) (λ (s : Stake). s.chips)

@@ -4,7 +4,7 @@ use Rattle.std.specs.List.{list_any}
 use Rattle.std.proofs.lemmas.Bool.{and_parts, le-leb}
 use Rattle.std.proofs.lemmas.List.{length-map}
 use Rattle.std.proofs.lemmas.List.Sums.{length-filter, sum_by-cons}
-use Rattle.chip_ledger.specs.Pots.{Stake, PlainPot, after_return, is_reached_by_all, between, folded_above, kept, layers, levels, may_win, pots_at, pots_of, reaching, with_chips}
+use Rattle.chip_ledger.specs.Pots.{Stake, PlainPot, after_return, is_reached_by_all, between, folded_above, without_returned, layers, levels, may_win, pots_at, pots_of, reaching, with_chips}
 use Rattle.card_set.proofs.Any.{list_any-filter, list_any-map, list_any-same}
 use Rattle.card_set.proofs.Rising.{filter-Rising}
 use Rattle.card_set.proofs.Sums.{sum_by-map}
@@ -120,7 +120,7 @@ sole_at stakes dead (x ∷ y ∷ rest) e few alone = absurd (omega (arith, few))
 
 still_live : (stakes : List Stake) → live_stakes (after_return stakes) ≡ live_stakes stakes
 unfolding after_return
-still_live stakes = sum_by-map (λ (s : Stake). cond s.live 1 0) (kept stakes) stakes
+still_live stakes = sum_by-map (λ (s : Stake). cond s.live 1 0) (without_returned stakes) stakes
 
 -- the pots if at most one seat is live
 pub sole_pot : (stakes : List Stake) (dead : ℕ)
@@ -141,9 +141,9 @@ pub may_win-one_pot : (stakes : List Stake) (dead seat : ℕ)
     → may_win (one_pot (after_return stakes) dead) seat ≡ list_any (λ (s : Stake). s.live && (s.seat == seat)) stakes
 unfolding after_return
 may_win-one_pot stakes dead seat =
-    let left = map (kept stakes) stakes in
+    let left = map (without_returned stakes) stakes in
     list_any-map (λ n. n == seat) (λ (s : Stake). s.seat) (filter (λ s. s.live && nat_le 0 s.chips) left)
     ∙ list_any-filter (λ (s : Stake). s.seat == seat) (λ s. s.live && nat_le 0 s.chips) left
     ∙ list_any-same (λ (s : Stake). (s.live && nat_le 0 s.chips) && (s.seat == seat)) (λ s. s.live && (s.seat == seat))
     (λ s. same_seat s.live s.chips s.seat seat) left
-    ∙ list_any-map (λ (s : Stake). s.live && (s.seat == seat)) (kept stakes) stakes
+    ∙ list_any-map (λ (s : Stake). s.live && (s.seat == seat)) (without_returned stakes) stakes

@@ -11,7 +11,7 @@ use Rattle.chip_ledger.specs.declared.seat_row.SeatRow.{SeatRow}
 use Rattle.chip_ledger.specs.LiveRow.{flag_of, flagged}
 use Rattle.chip_ledger.specs.SeatRow.{amount_of, total_of}
 use Rattle.chip_ledger.specs.PotRow.{stake_of, stakes_of}
-use Rattle.chip_ledger.specs.Pots.{Stake, after_return, kept, reaching, returned}
+use Rattle.chip_ledger.specs.Pots.{Stake, after_return, reaching, returned, without_returned}
 use Rattle.chip_ledger.specs.Seat.{seats_of}
 use Rattle.chip_ledger.proofs.PotSums.{stake_chips}
 use Rattle.chip_ledger.proofs.Seats.{filter-seats, map-seats, sum-seats}
@@ -52,9 +52,9 @@ stakes_of-after_return puts back left live seats given rest =
     let stakes = stakes_of puts live in
     let left_of : ℕ → ℕ → Stake = λ n chips. record { seat = n; chips = chips; live = flag_of live n } in
     ap (λ n. map (stake_of left live) (seats_of n)) seats
-    ∙ map-seats (stake_of left live) (λ n. kept stakes (stake_of puts live n)) puts.seats
+    ∙ map-seats (stake_of left live) (λ n. without_returned stakes (stake_of puts live n)) puts.seats
     (λ n low high. ap (left_of n) (rest n low high ∙ ap (λ b. amount_of puts n - b) (given n low high)))
-    ∙ sym (map-map (kept stakes) (stake_of puts live) (seats_of puts.seats))
+    ∙ sym (map-map (without_returned stakes) (stake_of puts live) (seats_of puts.seats))
 
 -- all chips of the stakes are the total of the row
 pub stake_chips-stakes_of : (puts : SeatRow) (live : LiveRow)

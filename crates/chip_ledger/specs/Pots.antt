@@ -42,12 +42,12 @@ abbrev pub returned : List Stake → Stake → ℕ
 returned stakes stake = if stake.live then stake.chips - greatest_other stakes stake.seat else 0
 
 -- a seat's stake without what is returned
-abbrev pub kept : List Stake → Stake → Stake
-kept stakes stake = record stake { chips = stake.chips - returned stakes stake }
+abbrev pub without_returned : List Stake → Stake → Stake
+without_returned stakes stake = record stake { chips = stake.chips - returned stakes stake }
 
 -- the stakes after the return
 unfoldable pub after_return : List Stake → List Stake
-after_return stakes = map (kept stakes) stakes
+after_return stakes = map (without_returned stakes) stakes
 
 -- an ascending list of numbers with one more, without repeats
 abbrev pub with_number : List ℕ → ℕ → List ℕ

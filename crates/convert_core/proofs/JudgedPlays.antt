@@ -8,7 +8,7 @@ use Rattle.hand_canon.specs.Sound.{IsSound}
 use Rattle.hand_records.specs.SoundRecord.{IsSoundRecord}
 use Rattle.convert_core.specs.declared.refusal.PlaysFault.{PlaysFault}
 use Rattle.convert_core.specs.declared.refusal.PlaysFault.TheVariants as plays_faults
-use Rattle.hand_canon.specs.Judged.{IsJudged}
+use Rattle.hand_canon.specs.LegalPlay.{IsLegalPlay}
 use Rattle.convert_core.specs.Judged.{IsFaultAt, IsPlaysFaultOf}
 use Rattle.hand_records.specs.Plays.{hands_of}
 
@@ -29,7 +29,7 @@ pub counted_more : (plays : List Play) (play : Play) (hand : Record) (left : Lis
 counted_more plays play hand left count before = omega (arith, length-append plays (play ∷ []), before)
 
 -- a judged play of a sound record is sound
-pub judged_sound : (play : Play) → IsSoundRecord play.hand → IsJudged play → IsSound play
+pub judged_sound : (play : Play) → IsSoundRecord play.hand → IsLegalPlay play → IsSound play
 judged_sound play sound judged =
     record {
       valid = sound.valid;
@@ -40,12 +40,12 @@ judged_sound play sound judged =
     }
 
 -- and so are all judged plays of sound records
-pub plays_sound : (plays : List Play) → All IsSoundRecord (hands_of plays) → All IsJudged plays → All IsSound plays
+pub plays_sound : (plays : List Play) → All IsSoundRecord (hands_of plays) → All IsLegalPlay plays → All IsSound plays
 plays_sound [] sound judged = All-nil IsSound
 plays_sound (play ∷ plays) sound judged =
     All-cons IsSound play plays
-    (judged_sound play (All-head IsSoundRecord play.hand (hands_of plays) sound) (All-head IsJudged play plays judged))
-    (plays_sound plays (All-tail IsSoundRecord play.hand (hands_of plays) sound) (All-tail IsJudged play plays judged))
+    (judged_sound play (All-head IsSoundRecord play.hand (hands_of plays) sound) (All-head IsLegalPlay play plays judged))
+    (plays_sound plays (All-tail IsSoundRecord play.hand (hands_of plays) sound) (All-tail IsLegalPlay play plays judged))
 
 -- what holds for all of a list holds for those at its front
 all_front : (P : Record → Type 0) (xs ys : List Record) → All P (xs ++ ys) → All P xs
@@ -54,13 +54,13 @@ all_front P (x ∷ xs) ys all = All-cons P x xs (All-head P x (xs ++ ys) all) (a
 
 -- so the plays of the records so far are sound
 pub front_sound : (plays : List Play) (left records : List Record)
-    → hands_of plays ++ left ≡ records → All IsSoundRecord records → All IsJudged plays → All IsSound plays
+    → hands_of plays ++ left ≡ records → All IsSoundRecord records → All IsLegalPlay plays → All IsSound plays
 front_sound plays left records same sound judged =
     plays_sound plays (all_front IsSoundRecord (hands_of plays) left (All-same IsSoundRecord (hands_of plays ++ left) records same sound)) judged
 
 -- a hand without a play, after judged ones, is the first refused one
 pub first_refused : (plays : List Play) (hand : Record) (left records : List Record) (number : ℕ) (fault : PlaysFault)
-    → All IsJudged plays → hands_of plays ++ hand ∷ left ≡ records → number ≡ length plays + 1
+    → All IsLegalPlay plays → hands_of plays ++ hand ∷ left ≡ records → number ≡ length plays + 1
     → IsFaultAt hand number fault → IsPlaysFaultOf records fault
 first_refused plays hand left records number (plays_faults.Refused told why) judged stands counted refused =
     record {

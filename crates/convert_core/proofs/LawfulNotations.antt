@@ -3,7 +3,7 @@ use Rattle.std.proofs.Common.{◌≡◌, ◌⊎◌, ◌+◌, ◌-◌, ℕ, ◌�
 use Rattle.std.specs.List.{AllByRecursion}
 use Rattle.std.proofs.lemmas.List.Elements.{All-cons, All-nil, recursion_from_All}
 use Rattle.first_fault.specs.declared.limits.TheConstants.{MOST_HANDS}
-use Rattle.hand_canon.specs.Judged.{IsJudged}
+use Rattle.hand_canon.specs.LegalPlay.{IsLegalPlay}
 use Rattle.hand_canon.specs.ReadAgain.{AreAgain}
 use Rattle.hand_canon.specs.Sound.{IsSound}
 use Rattle.hand_records.specs.AllowedNotes.{non_default_seats}
@@ -30,7 +30,7 @@ use Rattle.convert_core.proofs.OneConversion.{AllPlayedAlike, plays_alike}
 use Rattle.convert_core.proofs.OneOutcome.{not_both, same_plays}
 use Rattle.convert_core.proofs.WrittenLines.{few_plays}
 use Rattle.hand_records.proofs.NoteLaws.{notes_same, said_taken}
-use Rattle.hand_records.specs.SaidNotes.{KeepsNotes, SaidNotes, kept_label, name_said, notes_of, numbers_said, said_notes}
+use Rattle.hand_records.specs.SaidNotes.{KeepsNotes, SaidNotes, hand_name_noted, name_said, notes_of, numbers_said, said_notes}
 use Rattle.hand_records.specs.SameHands.{AllPaired, AreSameHand}
 
 -- bytes that say records have no fault
@@ -51,7 +51,7 @@ one_fault {n} law bytes fault other have has = by_case (law.read_or_fail bytes)
 
 -- ---- plays that are read
 
-each_sound : (rules : Rules) (plays : List Play) → AllByRecursion (IsUnder rules) (hands_of plays) → AllByRecursion IsJudged plays → AllByRecursion IsSound plays
+each_sound : (rules : Rules) (plays : List Play) → AllByRecursion (IsUnder rules) (hands_of plays) → AllByRecursion IsLegalPlay plays → AllByRecursion IsSound plays
 each_sound rules [] each judged = tt
 each_sound rules (play ∷ plays) each judged = (judged_sound play each.0.sound judged.0, each_sound rules plays each.1 judged.1)
 
@@ -59,7 +59,7 @@ each_sound rules (play ∷ plays) each judged = (judged_sound play each.0.sound 
 pub read_sound : {n : Meaning} (law : Lawful n) (bytes : List ℕ) (plays : List Play) → ReadAsPlays (n.Say bytes) plays → AllByRecursion IsSound plays
 read_sound {n} law bytes plays read =
     let file = law.reads_file bytes read.records read.say in
-    each_sound n.rules plays (subst (AllByRecursion (IsUnder n.rules)) (sym read.are.same) file.each) (recursion_from_All IsJudged plays read.are.judged)
+    each_sound n.rules plays (subst (AllByRecursion (IsUnder n.rules)) (sym read.are.same) file.each) (recursion_from_All IsLegalPlay plays read.are.judged)
 
 pub read_few : {n : Meaning} (law : Lawful n) (bytes : List ℕ) (plays : List Play) → ReadAsPlays (n.Say bytes) plays → AreFew plays
 read_few {n} law bytes plays read =
@@ -78,7 +78,7 @@ note_said place count a b same =
       names = map_agree (name_said a.names) (name_said b.names) 1 count (λ seat _ _. same.names (seat - 1));
       seats = numbers_alike count a.seats b.seats same.seats;
       seat_count = same.seat_count;
-      hand = ap (kept_label place) same.hand;
+      hand = ap (hand_name_noted place) same.hand;
       texts = same.texts;
       year = same.year;
       month = same.month;
@@ -145,12 +145,12 @@ again_hands keeps place [] (hand ∷ hands) again = absurd again
 again_hands keeps place (play ∷ plays) [] again = absurd again
 again_hands keeps place (play ∷ plays) (hand ∷ hands) again = ap (λ (hs : List Record). hand ∷ hs) (again_hands keeps (place + 1) plays hands again.1)
 
-again_judged : (keeps : ℕ → ℕ → Notes → Notes → Type 0) (place : ℕ) (plays : List Play) (hands : List Record) → AreAgain keeps place plays hands → All IsJudged (again_plays plays hands)
+again_judged : (keeps : ℕ → ℕ → Notes → Notes → Type 0) (place : ℕ) (plays : List Play) (hands : List Record) → AreAgain keeps place plays hands → All IsLegalPlay (again_plays plays hands)
 unfolding AreAgain
-again_judged keeps place [] hands again = All-nil IsJudged
-again_judged keeps place (play ∷ plays) [] again = All-nil IsJudged
+again_judged keeps place [] hands again = All-nil IsLegalPlay
+again_judged keeps place (play ∷ plays) [] again = All-nil IsLegalPlay
 again_judged keeps place (play ∷ plays) (hand ∷ hands) again =
-    All-cons IsJudged (record { hand = hand; trace = play.trace }) (again_plays plays hands) again.0.judged (again_judged keeps (place + 1) plays hands again.1)
+    All-cons IsLegalPlay (record { hand = hand; trace = play.trace }) (again_plays plays hands) again.0.judged (again_judged keeps (place + 1) plays hands again.1)
 
 -- they are the plays of these hands
 again_are : (keeps : ℕ → ℕ → Notes → Notes → Type 0) (place : ℕ) (plays : List Play) (hands : List Record) → AreAgain keeps place plays hands → ArePlaysOf hands (again_plays plays hands)

@@ -1,7 +1,7 @@
 -- Records that bytes cannot tell apart have plays that a notation cannot tell apart.
 use Rattle.std.proofs.Common.{◌≡◌, ℕ, All, List, [], ◌∷◌, sym, subst}
 use Rattle.std.proofs.lemmas.List.Elements.{All-head, All-tail}
-use Rattle.hand_canon.specs.Judged.{IsJudged}
+use Rattle.hand_canon.specs.LegalPlay.{IsLegalPlay}
 use Rattle.hand_records.specs.declared.record.Record.{Record}
 use Rattle.hand_records.specs.declared.trace.Play.{Play}
 use Rattle.play_event.specs.declared.setup.Setup.{Setup}
@@ -26,7 +26,7 @@ AllPlayedAlike [] (q ∷ qs) = ⊥
 AllPlayedAlike (p ∷ ps) [] = ⊥
 AllPlayedAlike (p ∷ ps) (q ∷ qs) = ArePlayedAlike p q × AllPlayedAlike ps qs
 
-pub played_alike : (plays others : List Play) → All IsJudged plays → AllTraced plays others → AllAlike (hands_of plays) (hands_of others) → AllPlayedAlike plays others
+pub played_alike : (plays others : List Play) → All IsLegalPlay plays → AllTraced plays others → AllAlike (hands_of plays) (hands_of others) → AllPlayedAlike plays others
 unfolding AllTraced AllAlike AllPlayedAlike
 played_alike [] [] judged traced alike = tt
 played_alike [] (q ∷ qs) judged traced alike = traced
@@ -37,9 +37,9 @@ played_alike (p ∷ ps) (q ∷ qs) judged traced alike = (
     same = traced.0.1;
     notes =
         subst (λ (setup : Setup). NoteTheSame setup.stacks.seats p.hand.notes q.hand.notes)
-        (sym (All-head IsJudged p ps judged).traced.whole.same_setup) alike.0.notes;
+        (sym (All-head IsLegalPlay p ps judged).traced.whole.same_setup) alike.0.notes;
   },
-  played_alike ps qs (All-tail IsJudged p ps judged) traced.1 alike.1,
+  played_alike ps qs (All-tail IsLegalPlay p ps judged) traced.1 alike.1,
 )
 
 -- plays of records that are alike

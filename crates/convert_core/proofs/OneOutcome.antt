@@ -25,7 +25,7 @@ use Rattle.replay_core.specs.Faults.{IsFaultOf, IsOutOfMemory}
 use Rattle.replay_core.proofs.OneFault.{no_fault, one_fault}
 use Rattle.convert_core.specs.declared.refusal.Refusal.{Refusal}
 use Rattle.convert_core.specs.declared.refusal.Refusal.TheVariants as refusals
-use Rattle.hand_canon.specs.Judged.{IsJudged, IsTraceOfLegal}
+use Rattle.hand_canon.specs.LegalPlay.{IsLegalPlay, IsTraceOfLegal}
 use Rattle.convert_core.specs.Judged.{ArePlaysOf, HasDifference, IsFirstRefused, IsRefusedFor, IsReplayFaultOf}
 use Rattle.convert_core.specs.SameRecords.{SayTheSame}
 use Rattle.hand_records.specs.Plays.{hands_of}
@@ -115,7 +115,7 @@ one_refusal a b (refusals.Fact differs) (refusals.Replay fault) same is it = abs
 one_refusal a b (refusals.Fact differs) (refusals.Fact other) same is it = ap refusals.Fact (one_difference a b differs other same is it)
 
 -- and then it has no play
-pub not_judged : (a : Record) (play : Play) (why : Refusal) → SayTheSame a play.hand → IsRefusedFor a why → IsJudged play → ⊥
+pub not_judged : (a : Record) (play : Play) (why : Refusal) → SayTheSame a play.hand → IsRefusedFor a why → IsLegalPlay play → ⊥
 not_judged a play (refusals.Replay fault) same is judged = not_legal a play.hand fault play.trace same is judged.traced
 not_judged a play (refusals.Fact differs) same is judged =
     cc (is.differs, judged.agrees, ap₂ first_difference (one_trace a play.hand is.trace play.trace same is.traced judged.traced) same.stated)
@@ -141,14 +141,14 @@ all_itself (a ∷ rest) = (itself a, all_itself rest)
 
 -- there is only one first refused hand, and it is refused for one reason
 one_refused : (xs ys : List Play) (a b : Record) (left right : List Record) (why other : Refusal)
-    → All IsJudged xs → All IsJudged ys → IsRefusedFor a why → IsRefusedFor b other
+    → All IsLegalPlay xs → All IsLegalPlay ys → IsRefusedFor a why → IsRefusedFor b other
     → AllTheSame (hands_of xs ++ a ∷ left) (hands_of ys ++ b ∷ right) → (length xs ≡ length ys) × (why ≡ other)
 unfolding AllTheSame
 one_refused [] [] a b left right why other xs_are ys_are is it same = (refl, one_refusal a b why other same.0 is it)
-one_refused [] (y ∷ ys) a b left right why other xs_are ys_are is it same = absurd (not_judged a y why same.0 is (All-head IsJudged y ys ys_are))
-one_refused (x ∷ xs) [] a b left right why other xs_are ys_are is it same = absurd (not_judged b x other (turned x.hand b same.0) it (All-head IsJudged x xs xs_are))
+one_refused [] (y ∷ ys) a b left right why other xs_are ys_are is it same = absurd (not_judged a y why same.0 is (All-head IsLegalPlay y ys ys_are))
+one_refused (x ∷ xs) [] a b left right why other xs_are ys_are is it same = absurd (not_judged b x other (turned x.hand b same.0) it (All-head IsLegalPlay x xs xs_are))
 one_refused (x ∷ xs) (y ∷ ys) a b left right why other xs_are ys_are is it same =
-    let rest = one_refused xs ys a b left right why other (All-tail IsJudged x xs xs_are) (All-tail IsJudged y ys ys_are) is it same.1 in
+    let rest = one_refused xs ys a b left right why other (All-tail IsLegalPlay x xs xs_are) (All-tail IsLegalPlay y ys ys_are) is it same.1 in
     (ap suc rest.0, rest.1)
 
 pub same_refused : (records others : List Record) (number count : ℕ) (why other : Refusal)
@@ -162,12 +162,12 @@ same_refused records others number count why other same is it =
 
 -- if one of the hands is refused, they have no plays
 none_judged : (plays xs : List Play) (a : Record) (left : List Record) (why : Refusal)
-    → All IsJudged plays → IsRefusedFor a why → AllTheSame (hands_of xs ++ a ∷ left) (hands_of plays) → ⊥
+    → All IsLegalPlay plays → IsRefusedFor a why → AllTheSame (hands_of xs ++ a ∷ left) (hands_of plays) → ⊥
 unfolding AllTheSame
 none_judged [] [] a left why judged is same = same
 none_judged [] (x ∷ xs) a left why judged is same = same
-none_judged (p ∷ ps) [] a left why judged is same = not_judged a p why same.0 is (All-head IsJudged p ps judged)
-none_judged (p ∷ ps) (x ∷ xs) a left why judged is same = none_judged ps xs a left why (All-tail IsJudged p ps judged) is same.1
+none_judged (p ∷ ps) [] a left why judged is same = not_judged a p why same.0 is (All-head IsLegalPlay p ps judged)
+none_judged (p ∷ ps) (x ∷ xs) a left why judged is same = none_judged ps xs a left why (All-tail IsLegalPlay p ps judged) is same.1
 
 pub no_plays : (records others : List Record) (number : ℕ) (why : Refusal) (plays : List Play)
     → AllTheSame records others → IsFirstRefused records number why → ArePlaysOf others plays → ⊥
@@ -182,14 +182,14 @@ AllTraced [] (q ∷ qs) = ⊥
 AllTraced (p ∷ ps) [] = ⊥
 AllTraced (p ∷ ps) (q ∷ qs) = ((p.trace ≡ q.trace) × SayTheSame p.hand q.hand) × AllTraced ps qs
 
-each_traced : (plays others : List Play) → All IsJudged plays → All IsJudged others → AllTheSame (hands_of plays) (hands_of others) → AllTraced plays others
+each_traced : (plays others : List Play) → All IsLegalPlay plays → All IsLegalPlay others → AllTheSame (hands_of plays) (hands_of others) → AllTraced plays others
 unfolding AllTheSame AllTraced
 each_traced [] [] judged too same = tt
 each_traced [] (q ∷ qs) judged too same = same
 each_traced (p ∷ ps) [] judged too same = same
 each_traced (p ∷ ps) (q ∷ qs) judged too same = (
-  (one_trace p.hand q.hand p.trace q.trace same.0 (All-head IsJudged p ps judged).traced (All-head IsJudged q qs too).traced, same.0),
-  each_traced ps qs (All-tail IsJudged p ps judged) (All-tail IsJudged q qs too) same.1,
+  (one_trace p.hand q.hand p.trace q.trace same.0 (All-head IsLegalPlay p ps judged).traced (All-head IsLegalPlay q qs too).traced, same.0),
+  each_traced ps qs (All-tail IsLegalPlay p ps judged) (All-tail IsLegalPlay q qs too) same.1,
 )
 
 pub same_traces : (records others : List Record) (plays too : List Play) → AllTheSame records others → ArePlaysOf records plays → ArePlaysOf others too → AllTraced plays too

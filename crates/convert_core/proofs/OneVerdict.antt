@@ -2,7 +2,7 @@
 -- before the first refused hand, and its refusal.
 use Rattle.std.proofs.Common.{◌≡◌, ℕ, All, List, [], ◌∷◌, ◌++◌, map, refl, sym, subst, ap, ap₂, ◌∙◌}
 use Rattle.std.proofs.lemmas.List.Elements.{All-cons, All-head, All-nil, All-tail}
-use Rattle.hand_canon.specs.Judged.{IsJudged}
+use Rattle.hand_canon.specs.LegalPlay.{IsLegalPlay}
 use Rattle.hand_records.specs.Plays.{hands_of}
 use Rattle.hand_records.specs.declared.record.Record.{Record}
 use Rattle.hand_records.specs.declared.trace.Play.{Play}
@@ -13,21 +13,21 @@ use Rattle.convert_core.specs.Verdicts.{AreVerdictsOn, IsFirstNotLegal, IsRight,
 use Rattle.convert_core.specs.declared.refusal.Refusal.{Refusal}
 
 -- the plays of one hand are equal
-one_play : (play other : Play) → play.hand ≡ other.hand → IsJudged play → IsJudged other → play ≡ other
+one_play : (play other : Play) → play.hand ≡ other.hand → IsLegalPlay play → IsLegalPlay other → play ≡ other
 one_play play other same is it =
     let plays : play ∷ [] ≡ other ∷ [] =
     same_plays (other.hand ∷ []) (play ∷ []) (other ∷ [])
-    (record { same = ap (λ (hand : Record). hand ∷ []) same; judged = All-cons IsJudged play [] is (All-nil IsJudged) })
-    (record { same = refl; judged = All-cons IsJudged other [] it (All-nil IsJudged) }) in
+    (record { same = ap (λ (hand : Record). hand ∷ []) same; judged = All-cons IsLegalPlay play [] is (All-nil IsLegalPlay) })
+    (record { same = refl; judged = All-cons IsLegalPlay other [] it (All-nil IsLegalPlay) }) in
     cc (plays)
 
 -- a hand with a play is not refused
-play_or_refused : (play : Play) (hand : Record) (why : Refusal) → play.hand ≡ hand → IsJudged play → IsRefusedFor hand why → ⊥
+play_or_refused : (play : Play) (hand : Record) (why : Refusal) → play.hand ≡ hand → IsLegalPlay play → IsRefusedFor hand why → ⊥
 play_or_refused play hand why same is refused =
     not_judged play.hand play why (itself play.hand) (subst (λ (h : Record). IsRefusedFor h why) (sym same) refused) is
 
 -- hands that have plays have these as verdicts
-pub all_legal : (plays : List Play) (verdicts : List Verdict) → All IsJudged plays → All IsRight verdicts
+pub all_legal : (plays : List Play) (verdicts : List Verdict) → All IsLegalPlay plays → All IsRight verdicts
     → hands_of plays ≡ map hand_in verdicts → verdicts ≡ map Legal plays
 all_legal [] [] judged right same = refl
 all_legal [] (verdict ∷ verdicts) judged right same = absurd (cc (same))
@@ -35,18 +35,18 @@ all_legal (play ∷ plays) [] judged right same = absurd (cc (same))
 all_legal (play ∷ plays) (Legal other ∷ verdicts) judged right same =
     let hand : play.hand ≡ other.hand = cc (same) in
     let rest : hands_of plays ≡ map hand_in verdicts = cc (same) in
-    let one = one_play play other hand (All-head IsJudged play plays judged) (All-head IsRight (Legal other) verdicts right) in
+    let one = one_play play other hand (All-head IsLegalPlay play plays judged) (All-head IsRight (Legal other) verdicts right) in
     ap₂ (λ (p : Play) (vs : List Verdict). Legal p ∷ vs) (sym one)
-    (all_legal plays verdicts (All-tail IsJudged play plays judged) (All-tail IsRight (Legal other) verdicts right) rest)
+    (all_legal plays verdicts (All-tail IsLegalPlay play plays judged) (All-tail IsRight (Legal other) verdicts right) rest)
 all_legal (play ∷ plays) (Refused hand why ∷ verdicts) judged right same =
     let here : play.hand ≡ hand = cc (same) in
-    absurd (play_or_refused play hand why here (All-head IsJudged play plays judged) (All-head IsRight (Refused hand why) verdicts right))
+    absurd (play_or_refused play hand why here (All-head IsLegalPlay play plays judged) (All-head IsRight (Refused hand why) verdicts right))
 
 -- and conversely
-judged_from : (plays : List Play) → All IsRight (map Legal plays) → All IsJudged plays
-judged_from [] right = All-nil IsJudged
+judged_from : (plays : List Play) → All IsRight (map Legal plays) → All IsLegalPlay plays
+judged_from [] right = All-nil IsLegalPlay
 judged_from (play ∷ plays) right =
-    All-cons IsJudged play plays (All-head IsRight (Legal play) (map Legal plays) right)
+    All-cons IsLegalPlay play plays (All-head IsRight (Legal play) (map Legal plays) right)
     (judged_from plays (All-tail IsRight (Legal play) (map Legal plays) right))
 
 pub legal_plays_are : (records : List Record) (verdicts : List Verdict) (plays : List Play) → AreVerdictsOn records verdicts
@@ -63,7 +63,7 @@ record StandsBehind (before : List Play) (hand : Record) (why : Refusal) (verdic
   stands : map Legal before ++ Refused hand why ∷ behind ≡ verdicts
 
 split : (before : List Play) (hand : Record) (left : List Record) (why : Refusal) (verdicts : List Verdict)
-    → All IsJudged before → IsRefusedFor hand why → All IsRight verdicts
+    → All IsLegalPlay before → IsRefusedFor hand why → All IsRight verdicts
     → hands_of before ++ hand ∷ left ≡ map hand_in verdicts → StandsBehind before hand why verdicts
 split [] hand left why [] judged refused right same = absurd (cc (same))
 split [] hand left why (Legal play ∷ verdicts) judged refused right same =
@@ -79,15 +79,15 @@ split (play ∷ before) hand left why [] judged refused right same = absurd (cc 
 split (play ∷ before) hand left why (Legal other ∷ verdicts) judged refused right same =
     let here : play.hand ≡ other.hand = cc (same) in
     let rest : hands_of before ++ hand ∷ left ≡ map hand_in verdicts = cc (same) in
-    let one = one_play play other here (All-head IsJudged play before judged) (All-head IsRight (Legal other) verdicts right) in
-    let more = split before hand left why verdicts (All-tail IsJudged play before judged) refused (All-tail IsRight (Legal other) verdicts right) rest in
+    let one = one_play play other here (All-head IsLegalPlay play before judged) (All-head IsRight (Legal other) verdicts right) in
+    let more = split before hand left why verdicts (All-tail IsLegalPlay play before judged) refused (All-tail IsRight (Legal other) verdicts right) rest in
     record {
       behind = more.behind;
       stands = ap₂ (λ (p : Play) (vs : List Verdict). Legal p ∷ vs) one more.stands;
     }
 split (play ∷ before) hand left why (Refused other reason ∷ verdicts) judged refused right same =
     let here : play.hand ≡ other = cc (same) in
-    absurd (play_or_refused play other reason here (All-head IsJudged play before judged) (All-head IsRight (Refused other reason) verdicts right))
+    absurd (play_or_refused play other reason here (All-head IsLegalPlay play before judged) (All-head IsRight (Refused other reason) verdicts right))
 
 pub first_not_legal : (records : List Record) (verdicts : List Verdict) (number : ℕ) (why : Refusal) → AreVerdictsOn records verdicts
     → IsFirstRefused records number why → IsFirstNotLegal verdicts number why
@@ -102,10 +102,10 @@ front_hands [] hand why behind = refl
 front_hands (play ∷ before) hand why behind = ap (λ (hands : List Record). play.hand ∷ hands) (front_hands before hand why behind)
 
 front_judged : (before : List Play) (hand : Record) (why : Refusal) (behind : List Verdict)
-    → All IsRight (map Legal before ++ Refused hand why ∷ behind) → All IsJudged before
-front_judged [] hand why behind right = All-nil IsJudged
+    → All IsRight (map Legal before ++ Refused hand why ∷ behind) → All IsLegalPlay before
+front_judged [] hand why behind right = All-nil IsLegalPlay
 front_judged (play ∷ before) hand why behind right =
-    All-cons IsJudged play before (All-head IsRight (Legal play) (map Legal before ++ Refused hand why ∷ behind) right)
+    All-cons IsLegalPlay play before (All-head IsRight (Legal play) (map Legal before ++ Refused hand why ∷ behind) right)
     (front_judged before hand why behind (All-tail IsRight (Legal play) (map Legal before ++ Refused hand why ∷ behind) right))
 
 front_refused : (before : List Play) (hand : Record) (why : Refusal) (behind : List Verdict)

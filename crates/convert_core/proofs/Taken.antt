@@ -2,7 +2,7 @@
 use Rattle.std.proofs.Common.{◌≡◌, Bool, true, false, ℕ, ◌+◌, ◌≤◌, ◌<◌, List, [], ◌∷◌, ◌++◌, All, length, map, append_assoc, append-nil, length-append, slice_index_or, refl, sym, ap, subst, ◌∙◌, arith}
 use Rattle.std.proofs.lemmas.List.{length-map, map-append}
 use Rattle.std.proofs.lemmas.List.Elements.{All-cons, All-head, All-nil, All-push, All-same, All-tail}
-use Rattle.hand_canon.specs.Judged.{IsJudged}
+use Rattle.hand_canon.specs.LegalPlay.{IsLegalPlay}
 use Rattle.hand_canon.specs.Sound.{IsSound}
 use Rattle.hand_records.specs.SoundRecord.{IsSoundRecord}
 use Rattle.hand_records.specs.Plays.{hands_of}
@@ -31,11 +31,11 @@ legal_same (Legal p ∷ rest) hand why = ap (λ (ps : List Play). p ∷ ps) (leg
 legal_same (Refused h w ∷ rest) hand why = legal_same rest hand why
 
 -- the plays of legal hands are judged
-plays_judged : (verdicts : List Verdict) → All IsRight verdicts → All IsJudged (legal_plays verdicts)
+plays_judged : (verdicts : List Verdict) → All IsRight verdicts → All IsLegalPlay (legal_plays verdicts)
 unfolding legal_plays
-plays_judged [] right = All-nil IsJudged
+plays_judged [] right = All-nil IsLegalPlay
 plays_judged (Legal play ∷ rest) right =
-    All-cons IsJudged play (legal_plays rest) (All-head IsRight (Legal play) rest right) (plays_judged rest (All-tail IsRight (Legal play) rest right))
+    All-cons IsLegalPlay play (legal_plays rest) (All-head IsRight (Legal play) rest right) (plays_judged rest (All-tail IsRight (Legal play) rest right))
 plays_judged (Refused hand why ∷ rest) right = plays_judged rest (All-tail IsRight (Refused hand why) rest right)
 
 -- verdicts on legal hands are on the records of their plays
@@ -81,7 +81,7 @@ last_is before after play found at behind here is =
 
 -- a legal hand was visited
 pub now_taken : (continues keeps : Bool) (Took Takes : List Verdict → Type 0) (hands : List Record) (place : ℕ) (old new : List Play) (play : Play) (hand : Record)
-    → (before : AreTaken continues keeps Took hands place old) → play.hand ≡ hand → IsJudged play
+    → (before : AreTaken continues keeps Took hands place old) → play.hand ≡ hand → IsLegalPlay play
     → (keeps ≡ true → new ≡ old ++ play ∷ []) → (keeps ≡ false → length new ≤ 1) → Takes (before.verdicts ++ Legal play ∷ [])
     → AreTaken continues keeps Takes (hands ++ hand ∷ []) (place + 1) new
 now_taken continues keeps Took Takes hands place old new play hand before same judged kept few takes =

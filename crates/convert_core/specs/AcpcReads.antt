@@ -2,7 +2,7 @@
 -- This is a proof: no reader needs it.
 use Rattle.std.proofs.Common.{◌≡◌, ℕ, suc, ◌+◌, Bool, false, List, [], ◌∷◌, length, map, Ok, Err, refl, ap}
 use Rattle.std.proofs.lemmas.List.{length-map}
-use Rattle.convert_core.specs.AcpcTold.{reading_told}
+use Rattle.convert_core.specs.AcpcFaultLines.{reading_line}
 use Rattle.acpc_format.specs.Again.{hands_again}
 use Rattle.acpc_game.specs.declared.game.Game.{Game}
 use Rattle.acpc_reading.specs.Logs.{HandSaid, reading}
@@ -59,8 +59,8 @@ module _ (game : Game) (bytes : List ℕ) where
   faults_of : HasFaultsOf (reading game bytes) formats.Acpc (HaveFault game bytes)
   faults_of =
       record {
-        told = λ fault read. not_out_of_memory fault (reading_told game bytes fault read);
-        have = λ fault read. record { told = reading_told game bytes fault read; reads = read };
+        told = λ fault read. not_out_of_memory fault (reading_line game bytes fault read);
+        have = λ fault read. record { told = reading_line game bytes fault read; reads = read };
         one = one_fault;
       }
 

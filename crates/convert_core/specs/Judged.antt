@@ -5,7 +5,7 @@ use Rattle.hand_records.specs.declared.record.Record.{Record}
 use Rattle.hand_records.specs.declared.trace.Play.{Play}
 use Rattle.hand_records.specs.declared.trace.Trace.{Trace}
 use Rattle.hand_canon.specs.Agreement.{difference_said, first_difference}
-use Rattle.hand_canon.specs.Judged.{IsJudged, IsTraceOfLegal}
+use Rattle.hand_canon.specs.LegalPlay.{IsLegalPlay, IsTraceOfLegal}
 use Rattle.replay_core.specs.declared.fault.ReplayFault.{ReplayFault}
 use Rattle.replay_core.specs.declared.fault.ReplayFault.TheVariants as faults
 use Rattle.replay_core.specs.Faults.{IsFaultOf}
@@ -18,13 +18,13 @@ use Rattle.convert_core.specs.declared.refusal.Refusal.TheVariants as refusals
 -- agrees
 pub record ArePlaysOf (records : List Record) (plays : List Play) : Type 0 where
   pub same : map (λ (play : Play). play.hand) plays ≡ records
-  pub judged : All IsJudged plays
+  pub judged : All IsLegalPlay plays
 
 -- these plays are followed by one more, the play of this record
 pub record IsOneMorePlay (before : List Play) (hand : Record) (after : List Play) : Type 0 where
   pub play : Play
   pub same : play.hand ≡ hand
-  pub judged : IsJudged play
+  pub judged : IsLegalPlay play
   pub behind : after ≡ before ++ play ∷ []
 
 -- the fault of a script, if it is not that memory ran out
@@ -47,7 +47,7 @@ IsRefusedFor hand (refusals.Fact differs) = HasDifference hand differs
 -- the hand with this number, from 1, is the first refused one: those before it have plays
 pub record IsFirstRefused (records : List Record) (number : ℕ) (why : Refusal) : Type 0 where
   pub before : List Play
-  pub judged : All IsJudged before
+  pub judged : All IsLegalPlay before
   pub hand : Record
   pub behind : List Record
   pub where_it_stands : map (λ (play : Play). play.hand) before ++ hand ∷ behind ≡ records

@@ -33,7 +33,7 @@ pub mod OhhReads
 pub mod Acpc
 pub mod AcpcAlike
 pub mod AcpcLaws
-pub mod AcpcTold
+pub mod AcpcFaultLines
 pub mod AcpcReads
 pub mod KeptParts
 pub mod PlainFacts

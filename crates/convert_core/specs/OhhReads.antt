@@ -66,20 +66,20 @@ abbrev fault_of : Wrong → OhhFault
 fault_of (NoText hand) = faults.Text hand
 fault_of (InHand hand path what) = at_member hand path what
 
-member_told : (hand : ℕ) (path : List ℕ) (what : MemberFaultKind)
+member_named : (hand : ℕ) (path : List ℕ) (what : MemberFaultKind)
     → wrong_of (at_member hand path what) ≡ Some (InHand hand path what)
-member_told hand path (whats.TooMany quantity) = refl
-member_told hand path what = refl
+member_named hand path (whats.TooMany quantity) = refl
+member_named hand path what = refl
 
-fault_told : (wrong : Wrong) → wrong_of (fault_of wrong) ≡ Some wrong
-fault_told (NoText hand) = refl
-fault_told (InHand hand path what) = member_told hand path what
+fault_named : (wrong : Wrong) → wrong_of (fault_of wrong) ≡ Some wrong
+fault_named (NoText hand) = refl
+fault_named (InHand hand path what) = member_named hand path what
 
 -- a fault with this mistake is the one for this mistake
-told_fault : (fault : OhhFault) (wrong : Wrong) → wrong_of fault ≡ Some wrong
+named_fault : (fault : OhhFault) (wrong : Wrong) → wrong_of fault ≡ Some wrong
     → fault ≡ fault_of wrong
-told_fault (faults.Memory memory) wrong told = absurd (cc (told))
-told_fault fault wrong told = ap fault_of (same_Some _ wrong told)
+named_fault (faults.Memory memory) wrong told = absurd (cc (told))
+named_fault fault wrong told = ap fault_of (same_Some _ wrong told)
 
 -- the fault for a mistake is not that memory ran out
 not_out_of_memory : (wrong : Wrong) → is_out_of_memory_in_ohh (fault_of wrong) ≡ false
@@ -93,7 +93,7 @@ module _ (dialect : Dialect) (bytes : List ℕ) where
       → (wrong : Wrong)
       × ((reading dialect bytes ≡ Err wrong) × (fault ≡ formats.Ohh (fault_of wrong)))
   one_fault (formats.Ohh fault) have =
-      (have.wrong, (have.reads, ap formats.Ohh (told_fault fault have.wrong have.told)))
+      (have.wrong, (have.reads, ap formats.Ohh (named_fault fault have.wrong have.told)))
   one_fault _ have = absurd have
 
   faults_of : HasFaultsOf (reading dialect bytes) (λ wrong. formats.Ohh (fault_of wrong))
@@ -101,7 +101,7 @@ module _ (dialect : Dialect) (bytes : List ℕ) where
   faults_of =
       record {
         told = λ wrong read. not_out_of_memory wrong;
-        have = λ wrong read. record { wrong = wrong; told = fault_told wrong; reads = read };
+        have = λ wrong read. record { wrong = wrong; told = fault_named wrong; reads = read };
         one = one_fault;
       }
 

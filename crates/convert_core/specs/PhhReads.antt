@@ -58,20 +58,20 @@ abbrev fault_of : Wrong → PhhFault
 fault_of NoDocument = faults.Text
 fault_of (InHand hand key what) = at_field hand key what
 
-field_told : (hand : ℕ) (key : List ℕ) (what : FieldFaultKind)
+field_named : (hand : ℕ) (key : List ℕ) (what : FieldFaultKind)
     → wrong_of (at_field hand key what) ≡ Some (InHand hand key what)
-field_told hand key (whats.TooMany quantity) = refl
-field_told hand key what = refl
+field_named hand key (whats.TooMany quantity) = refl
+field_named hand key what = refl
 
-fault_told : (wrong : Wrong) → wrong_of (fault_of wrong) ≡ Some wrong
-fault_told NoDocument = refl
-fault_told (InHand hand key what) = field_told hand key what
+fault_named : (wrong : Wrong) → wrong_of (fault_of wrong) ≡ Some wrong
+fault_named NoDocument = refl
+fault_named (InHand hand key what) = field_named hand key what
 
 -- a fault with this mistake is the one for this mistake
-told_fault : (fault : PhhFault) (wrong : Wrong) → wrong_of fault ≡ Some wrong
+named_fault : (fault : PhhFault) (wrong : Wrong) → wrong_of fault ≡ Some wrong
     → fault ≡ fault_of wrong
-told_fault (faults.Memory memory) wrong told = absurd (cc (told))
-told_fault fault wrong told = ap fault_of (same_Some _ wrong told)
+named_fault (faults.Memory memory) wrong told = absurd (cc (told))
+named_fault fault wrong told = ap fault_of (same_Some _ wrong told)
 
 -- the fault for a mistake is not that memory ran out
 not_out_of_memory : (wrong : Wrong) → is_out_of_memory_in_phh (fault_of wrong) ≡ false
@@ -83,7 +83,7 @@ not_out_of_memory (InHand hand key what) = refl
 one_fault : (bytes : List ℕ) (fault : FormatFault) → HaveFault bytes fault
     → (wrong : Wrong) × ((reading bytes ≡ Err wrong) × (fault ≡ formats.Phh (fault_of wrong)))
 one_fault bytes (formats.Phh fault) have =
-    (have.wrong, (have.reads, ap formats.Phh (told_fault fault have.wrong have.told)))
+    (have.wrong, (have.reads, ap formats.Phh (named_fault fault have.wrong have.told)))
 one_fault bytes _ have = absurd have
 
 faults_of : (bytes : List ℕ)
@@ -91,7 +91,7 @@ faults_of : (bytes : List ℕ)
 faults_of bytes =
     record {
       told = λ wrong read. not_out_of_memory wrong;
-      have = λ wrong read. record { wrong = wrong; told = fault_told wrong; reads = read };
+      have = λ wrong read. record { wrong = wrong; told = fault_named wrong; reads = read };
       one = one_fault bytes;
     }
 

@@ -1,6 +1,6 @@
 -- The verdict on a hand: legal, and in agreement with what it states, or refused, and why.
 use Rattle.std.specs.Prelude.{◌≡◌, ℕ, ◌+◌, Bool, false, List, [], ◌∷◌, ◌++◌, length, map, All}
-use Rattle.hand_canon.specs.Judged.{IsJudged}
+use Rattle.hand_canon.specs.LegalPlay.{IsLegalPlay}
 use Rattle.hand_records.specs.declared.record.Record.{Record}
 use Rattle.hand_records.specs.declared.trace.Play.{Play}
 use Rattle.convert_core.specs.Judged.{IsRefusedFor}
@@ -18,7 +18,7 @@ hand_in (Refused hand why) = hand
 
 -- the verdict is right
 abbrev pub IsRight : Verdict → Type 0
-IsRight (Legal play) = IsJudged play
+IsRight (Legal play) = IsLegalPlay play
 IsRight (Refused hand why) = IsRefusedFor hand why
 
 -- the plays of the legal hands among them, in their order

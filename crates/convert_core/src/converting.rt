@@ -8,9 +8,9 @@ ghost use Rattle.convert_core.specs.Conversion.{IsPlaysRefusal, IsReadFault, Rea
 ghost use Rattle.convert_core.specs.Records.{AreFew, AreOfFile};
 
 use crate::convert_fault::ConvertFault;
-use crate::kept_plays::plays_of;
 use crate::lines::write_records;
 use crate::notation::Notation;
+use crate::retained_plays::plays_of;
 use crate::sound_records::SoundRecords;
 use hand_records::{Keep, Play, WriteRefusal};
 use std::alloc::Global;

@@ -1,7 +1,7 @@
 //! A legal hand of a file, as it is passed to a visitor.
 ghost use Rattle.std.specs.Prelude.{◌≡◌, ◌<◌};
 ghost use Rattle.first_fault.specs.declared.limits.TheConstants.{MOST_HANDS};
-ghost use Rattle.hand_canon.specs.Judged.{IsJudged};
+ghost use Rattle.hand_canon.specs.LegalPlay.{IsLegalPlay};
 ghost use Rattle.hand_canon.specs.Sound.{IsSound};
 
 use hand_records::Play;
@@ -9,7 +9,7 @@ use std::marker::Model;
 
 /// The place of a hand in its file, from 0: below the most hands of a file.
 #[derive(Clone, Copy, Debug, PartialEq, Eq)]
-pub struct HandPlace {
+pub struct HandIndex {
     pub index: usize,
     pub ghost within: { index < MOST_HANDS },
 }
@@ -21,7 +21,7 @@ pub struct JudgedPlay<'a> {
 }
 
 impl<'a> Model for JudgedPlay<'a> {
-    ghost use Rattle.hand_canon.specs.Judged.{IsJudged};
+    ghost use Rattle.hand_canon.specs.LegalPlay.{IsLegalPlay};
     ghost use Rattle.hand_canon.specs.Sound.{IsSound};
     ghost use Rattle.hand_records.specs.declared.trace.Play.{Play as AnyPlay};
 
@@ -29,14 +29,14 @@ impl<'a> Model for JudgedPlay<'a> {
 
     ghost view = { λ it. it.play.now };
 
-    ghost invariant = { λ it. IsSound it.play.now × IsJudged it.play.now };
+    ghost invariant = { λ it. IsSound it.play.now × IsLegalPlay it.play.now };
 }
 
 impl<'a> JudgedPlay<'a> {
     /// The same play.
     pub fn new(play: &'a Play) -> Self
         requires sound { IsSound play.now }
-        requires judged { IsJudged play.now }
+        requires judged { IsLegalPlay play.now }
         ensures { result ≡ play.now }
     {
         JudgedPlay { play }
@@ -46,7 +46,7 @@ impl<'a> JudgedPlay<'a> {
     pub fn play(&self) -> &'a Play
         ensures same { result.now ≡ self.now }
         ensures sound { IsSound result.now }
-        ensures judged { IsJudged result.now }
+        ensures judged { IsLegalPlay result.now }
     {
         self.play
     }

@@ -4,7 +4,7 @@ ghost use Rattle.hand_records.specs.SoundRecord.{IsSoundRecord};
 ghost use Rattle.convert_core.specs.Judged.{IsFaultAt, IsOneMorePlay};
 ghost use Rattle.convert_core.specs.declared.refusal.PlaysFault.TheVariants as plays_faults;
 
-use crate::judged_play::HandPlace;
+use crate::judged_play::HandIndex;
 use crate::refusal::{PlaysFault, Refusal};
 use card_set::TryPush;
 use hand_canon::check_stated;
@@ -21,7 +21,7 @@ use std::alloc::Global;
 pub fn replay_and_check(
     alloc: Global,
     plays: &mut Vec<Play>,
-    place: HandPlace,
+    place: HandIndex,
     hand: Record,
 ) -> Result<(), PlaysFault>
     requires { IsSoundRecord hand }

@@ -10,13 +10,13 @@ mod format;
 mod format_fault;
 mod judged_play;
 mod judging;
-mod kept_plays;
 mod laws;
 mod lines;
 mod notation;
 mod ohh;
 mod phh;
 mod refusal;
+mod retained_plays;
 mod sound_records;
 mod taking;
 mod visitor;
@@ -26,8 +26,8 @@ pub use convert_fault::ConvertFault;
 pub use converting::{convert, plays, read_records};
 pub use format::Format;
 pub use format_fault::FormatFault;
-pub use judged_play::{HandPlace, JudgedPlay};
-pub use kept_plays::plays_of;
+pub use judged_play::{HandIndex, JudgedPlay};
+pub use retained_plays::plays_of;
 pub use laws::{
     law_of_converting_again, law_of_converting_by_way, law_of_equal_outputs, law_of_kept_notes,
     law_of_legal_conversions, law_of_one_conversion, law_of_one_outcome, law_of_sharpness,

@@ -5,7 +5,7 @@ ghost use Rattle.hand_canon.specs.Sound.{IsSound};
 ghost use Rattle.convert_core.specs.Lines.{IsWritten};
 
 use crate::convert_fault::ConvertFault;
-use crate::judged_play::{HandPlace, JudgedPlay};
+use crate::judged_play::{HandIndex, JudgedPlay};
 use crate::notation::Notation;
 use crate::refusal::{PlaysFault, Refusal};
 use crate::sound_records::SoundRecords;
@@ -45,7 +45,7 @@ impl<'a, N: Notation> VerdictVisitor for Writer<'a, N> {
     fn take(
         &mut self,
         alloc: Global,
-        place: HandPlace,
+        place: HandIndex,
         judged: &JudgedPlay<'_>,
     ) -> Result<(), Memory> {
         if self.refusal.is_some() {
@@ -62,7 +62,7 @@ impl<'a, N: Notation> VerdictVisitor for Writer<'a, N> {
         Ok(())
     }
 
-    fn pass(&mut self, _: Global, _: HandPlace, _: &Refusal) -> Result<(), Memory> {
+    fn pass(&mut self, _: Global, _: HandIndex, _: &Refusal) -> Result<(), Memory> {
         Ok(())
     }
 }

@@ -9,7 +9,7 @@ ghost use Rattle.hand_records.specs.declared.record.Record.{Record as AnyRecord}
 ghost use Rattle.hand_records.specs.declared.trace.Play.{Play as AnyPlay};
 ghost use Rattle.convert_core.specs.Taking.{AreTaken, HasTaken};
 
-use crate::judged_play::{HandPlace, JudgedPlay};
+use crate::judged_play::{HandIndex, JudgedPlay};
 use crate::judging::replay_and_check;
 use crate::refusal::{PlaysFault, Refusal};
 use crate::sound_records::SoundRecords;
@@ -44,7 +44,7 @@ pub fn judge_all<T: VerdictVisitor>(
     let mut kept = list_with_room(alloc, room(visitor, hands.len()))?;
     let mut index = 0;
     for hand in hands {
-        let place = HandPlace { index };
+        let place = HandIndex { index };
         match take_hand(alloc, visitor, &mut kept, place, hand) {
             Ok(()) => {}
             Err(fault) => return Err(fault),
@@ -77,7 +77,7 @@ fn take_hand<T: VerdictVisitor>(
     alloc: Global,
     visitor: &mut T,
     kept: &mut Vec<Play>,
-    place: HandPlace,
+    place: HandIndex,
     hand: Record,
 ) -> Result<(), PlaysFault>
     requires sound { IsSoundRecord hand }
@@ -108,7 +108,7 @@ fn take_hand<T: VerdictVisitor>(
 fn pass_hand<T: VerdictVisitor>(
     alloc: Global,
     visitor: &mut T,
-    place: HandPlace,
+    place: HandIndex,
     number: u32,
     why: Refusal,
 ) -> Result<(), PlaysFault>

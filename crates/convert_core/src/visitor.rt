@@ -5,7 +5,7 @@ ghost use Rattle.hand_records.specs.declared.record.Record.{Record as AnyRecord}
 ghost use Rattle.convert_core.specs.Taking.{HasTaken};
 ghost use Rattle.convert_core.specs.Verdicts.{AreLegalUnless, Legal, Refused, Verdict};
 
-use crate::judged_play::{HandPlace, JudgedPlay};
+use crate::judged_play::{HandIndex, JudgedPlay};
 use crate::refusal::Refusal;
 use card_set::Memory;
 use std::alloc::Global;
@@ -35,7 +35,7 @@ pub trait VerdictVisitor {
     /// # Errors
     ///
     /// Out of memory.
-    fn take(&mut self, alloc: Global, place: HandPlace, play: &JudgedPlay<'_>) -> Result<(), Memory>
+    fn take(&mut self, alloc: Global, place: HandIndex, play: &JudgedPlay<'_>) -> Result<(), Memory>
         requires { (start : Self) × HasTaken (Took start self.old) place.index }
         ensures { (start : Self) (before : List Verdict) → length before ≡ place.index
             → AreLegalUnless CONTINUES before → Took start self.old before
@@ -47,7 +47,7 @@ pub trait VerdictVisitor {
     /// # Errors
     ///
     /// Out of memory.
-    fn pass(&mut self, alloc: Global, place: HandPlace, why: &Refusal) -> Result<(), Memory>
+    fn pass(&mut self, alloc: Global, place: HandIndex, why: &Refusal) -> Result<(), Memory>
         requires { (start : Self) × HasTaken (Took start self.old) place.index }
         ensures { (start : Self) (before : List Verdict) (hand : AnyRecord) → CONTINUES ≡ true
             → length before ≡ place.index → IsRefusedFor hand why.now → Took start self.old before

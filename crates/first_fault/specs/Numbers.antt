@@ -2,5 +2,5 @@
 use Rattle.std.specs.Prelude.{min, ℕ}
 
 -- a number, or the greatest number of 32 bits if it is above that
-abbrev pub kept_number : ℕ → ℕ
-kept_number number = min number 4294967295
+abbrev pub saturated : ℕ → ℕ
+saturated number = min number 4294967295

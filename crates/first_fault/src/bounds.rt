@@ -1,7 +1,7 @@
 //! Compares a number, and the number of values of a list, with a least and a greatest number.
 ghost use Rattle.std.specs.Prelude.{◌≡◌, ◌≤◌, ◌&&◌, length, nat_le, IfOk};
 ghost use Rattle.first_fault.specs.Forms.{within};
-ghost use Rattle.first_fault.specs.Numbers.{kept_number};
+ghost use Rattle.first_fault.specs.Numbers.{saturated};
 ghost use Rattle.first_fault.specs.Reading.{Gives};
 
 use crate::stop::ReadError;
@@ -27,7 +27,7 @@ pub fn has_count<T>(values: &[T], least: usize, most: usize) -> bool
 
 /// The number, or the greatest number of 32 bits if it is above that.
 pub fn saturating_u32(number: u64) -> u32
-    ensures { result ≡ kept_number number }
+    ensures { result ≡ saturated number }
 {
     if number > 4_294_967_295 {
         4_294_967_295

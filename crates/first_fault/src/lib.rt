@@ -14,4 +14,4 @@ pub use digits::{are_digits, read_digits};
 pub use limits::{MOST_FILE_MOVES, MOST_HANDS, MOST_TEXT_BYTES, Quantity};
 pub use stop::ReadError;
 pub use text::Text;
-pub use words::{next_word, place_of};
+pub use words::{next_word, position_of};

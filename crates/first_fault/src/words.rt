@@ -14,7 +14,7 @@ pub fn next_word(text: &[u8]) -> Option<(&[u8], &[u8])>
     if text.is_empty() {
         return None;
     }
-    let len = place_of(text, b' ');
+    let len = position_of(text, b' ');
     Some(text.split_at(len))
 }
 
@@ -32,7 +32,7 @@ fn skip_spaces(text: &[u8]) -> &[u8]
 }
 
 /// The number of bytes before the first such sign.
-pub fn place_of(text: &[u8], sign: u8) -> usize
+pub fn position_of(text: &[u8], sign: u8) -> usize
     ensures { result ≡ position_or_len (λ other. other == sign) text.now }
 {
     for (index, other) in text.iter().enumerate() {

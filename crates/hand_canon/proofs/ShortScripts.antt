@@ -14,7 +14,7 @@ use Rattle.play_event.specs.TraceCore.{TraceCore}
 use Rattle.play_event.specs.CanonScript.{board_said, canonical_script, deal_said, deals_said, dealt_slots, discarded_slots, discards_said, drawing_seats, is_reached, move_named, moves_named, plain_move, plain_moves, showdown_said, showing_said, street_said}
 use Rattle.card_set.proofs.Lists.{kept_few, maybe_few}
 use Rattle.card_set.proofs.FlatMaps.{flat_few}
-use Rattle.first_fault.specs.Numbers.{kept_number}
+use Rattle.first_fault.specs.Numbers.{saturated}
 use Rattle.play_event.proofs.Deals.{one_board, one_deal}
 
 -- what the seats that pass a test say, one event each
@@ -65,8 +65,8 @@ canon_short setup trace streets few =
     )
 
 -- numbers below the limit are kept as they are
-pub numbers_are : (first count : ℕ) → first + count ≤ 4294967296 → map kept_number (range_with_len first count) ≡ range_with_len first count
+pub numbers_are : (first count : ℕ) → first + count ≤ 4294967296 → map saturated (range_with_len first count) ≡ range_with_len first count
 numbers_are first zero few = refl
 numbers_are first (suc count) few =
-    let here : kept_number first ≡ first = grind (arith, few) in
-    ap (λ n. n ∷ map kept_number (range_with_len (first + 1) count)) here ∙ ap (λ l. first ∷ l) (numbers_are (first + 1) count (omega (arith, few)))
+    let here : saturated first ≡ first = grind (arith, few) in
+    ap (λ n. n ∷ map saturated (range_with_len (first + 1) count)) here ∙ ap (λ l. first ∷ l) (numbers_are (first + 1) count (omega (arith, few)))

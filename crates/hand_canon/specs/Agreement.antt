@@ -66,9 +66,9 @@ abbrev pub value_compared : Trace → NetRow → ℕ → Comparison
 value_compared trace row seat = comparison (Value seat) (net_of row seat) (value_of trace seat)
 
 -- the comparisons of a row, seat by seat, if there is a row
-abbrev pub row_compared : {Row : Type 0} → Trace → (Trace → Row → ℕ → Comparison) → Option Row
+abbrev pub seats_compared : {Row : Type 0} → Trace → (Trace → Row → ℕ → Comparison) → Option Row
     → List Comparison
-row_compared trace compared row =
+seats_compared trace compared row =
     option_map_or (λ stated. map (compared trace stated) (all_seats trace.setup)) row []
 
 -- the comparison of the total of the pots, if it is stated
@@ -78,10 +78,10 @@ total_compared trace total = option_map_or (λ stated. pots_compared trace state
 -- all that is stated, in the order in which it is compared
 abbrev pub all_compared : Trace → Stated → List Comparison
 all_compared trace stated =
-    row_compared trace finish_compared stated.finish
-    ++ (row_compared trace win_compared stated.wins
+    seats_compared trace finish_compared stated.finish
+    ++ (seats_compared trace win_compared stated.wins
     ++ (total_compared trace stated.pot_total
-    ++ row_compared trace value_compared stated.values))
+    ++ seats_compared trace value_compared stated.values))
 
 -- the numbers of a comparison differ
 abbrev pub is_different : Comparison → Bool

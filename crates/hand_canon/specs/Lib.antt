@@ -10,7 +10,7 @@ pub mod WholeTrace
 pub mod Sound
 pub mod Agreement
 pub mod DifferingFact
-pub mod Judged
+pub mod LegalPlay
 pub mod ReadAgain
 pub mod Numbers
 pub mod SaidSoFar

@@ -3,12 +3,12 @@ use Rattle.std.specs.Prelude.{◌≡◌, ℕ, ◌+◌, List, [], ◌∷◌}
 use Rattle.hand_records.specs.declared.notes.Notes.{Notes}
 use Rattle.hand_records.specs.declared.record.Record.{Record}
 use Rattle.hand_records.specs.declared.trace.Play.{Play}
-use Rattle.hand_canon.specs.Judged.{IsJudged}
+use Rattle.hand_canon.specs.LegalPlay.{IsLegalPlay}
 
 -- a hand is that of a play read back: it is legal under its own rules and has the whole trace of
 -- the play, what it states agrees, its setup is that of the play, and its notes are the kept ones
 pub record IsAgain (keeps : Notes → Notes → Type 0) (play : Play) (hand : Record) : Type 0 where
-  pub judged : IsJudged (record { hand = hand; trace = play.trace })
+  pub judged : IsLegalPlay (record { hand = hand; trace = play.trace })
   pub same_setup : hand.setup ≡ play.trace.setup
   pub notes : keeps play.hand.notes hand.notes
 

@@ -1,7 +1,7 @@
 -- The facts of a play that no bytes can say, whoever wrote them, and hands that do not have the
 -- trace of a play.
 use Rattle.std.specs.Prelude.{Bool, false, true}
-use Rattle.hand_canon.specs.Judged.{IsTraceOfLegal}
+use Rattle.hand_canon.specs.LegalPlay.{IsTraceOfLegal}
 use Rattle.hand_records.specs.declared.record.Record.{Record}
 use Rattle.hand_records.specs.declared.trace.Play.{Play}
 use Rattle.hand_records.specs.declared.writing.Unspelled.{Unspelled}

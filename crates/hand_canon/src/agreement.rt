@@ -4,7 +4,7 @@ ghost use Rattle.std.specs.Option.{ForSome};
 ghost use Rattle.std.specs.Result.{result_err};
 ghost use Rattle.chip_ledger.specs.SeatRow.{amount_of};
 ghost use Rattle.chip_ledger.specs.declared.seat_row.TheConstants.{MOST_AMOUNT};
-ghost use Rattle.hand_canon.specs.Agreement.{HasBoundedPots, comparison, difference_of, difference_said, finish_compared, first_difference, is_different, pot_total_of, row_compared, total_compared, value_compared, value_of, which_said, win_compared, win_of};
+ghost use Rattle.hand_canon.specs.Agreement.{HasBoundedPots, comparison, difference_of, difference_said, finish_compared, first_difference, is_different, pot_total_of, seats_compared, total_compared, value_compared, value_of, which_said, win_compared, win_of};
 ghost use Rattle.hand_canon.specs.DifferingFact.{differs_text, which_text};
 ghost use Rattle.hand_records.specs.SoundRecord.{IsStatedFor};
 
@@ -96,7 +96,7 @@ pub fn check_stated(trace: &Trace, stated: &Stated) -> Result<(), FactDiffers>
 // The first stated finishing stack that differs.
 fn first_finish(trace: &Trace, row: Option<SeatRow>) -> Option<FactDiffers>
     ensures { option_map difference_said result
-        ≡ find is_different (row_compared trace.now finish_compared row) }
+        ≡ find is_different (seats_compared trace.now finish_compared row) }
 {
     let Some(row) = row else {
         return None;
@@ -126,7 +126,7 @@ fn finish(trace: &Trace, seat: Seat) -> u64
 // The first stated win that differs.
 fn first_win(trace: &Trace, row: Option<SeatRow>) -> Option<FactDiffers>
     ensures { option_map difference_said result
-        ≡ find is_different (row_compared trace.now win_compared row) }
+        ≡ find is_different (seats_compared trace.now win_compared row) }
 {
     let Some(row) = row else {
         return None;
@@ -197,7 +197,7 @@ fn signed(chips: u64) -> i64
 // The first stated net result that differs.
 fn first_value(trace: &Trace, row: Option<NetRow>) -> Option<FactDiffers>
     ensures { option_map difference_said result
-        ≡ find is_different (row_compared trace.now value_compared row) }
+        ≡ find is_different (seats_compared trace.now value_compared row) }
 {
     let Some(row) = row else {
         return None;

@@ -2,7 +2,7 @@
 ghost use Rattle.std.specs.Prelude.{◌≡◌, [], ◌∷◌, ◌++◌, ◌+◌, OnOk};
 ghost use Rattle.play_event.specs.Said.{kind_said};
 ghost use Rattle.hand_canon.specs.Numbers.{AreNumbered};
-ghost use Rattle.first_fault.specs.Numbers.{kept_number};
+ghost use Rattle.first_fault.specs.Numbers.{saturated};
 
 use card_set::Memory;
 use play_event::{Event, Kind, Script};
@@ -39,7 +39,7 @@ impl Numbered {
 // The number of the event after `count` others, limited to the greatest number that an event can
 // have.
 fn number_after(count: usize) -> u32
-    ensures { result ≡ kept_number (count + 1) }
+    ensures { result ≡ saturated (count + 1) }
 {
     if count < u32::MAX as usize {
         count as u32 + 1

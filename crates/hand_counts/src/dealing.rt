@@ -4,7 +4,7 @@ ghost use Rattle.card_set.specs.Row.{cards_of};
 ghost use Rattle.hand_counts.specs.Dealt.{AreDealt};
 
 use crate::tally::Tally;
-use card_set::{CardRow, Slot, card_at, place_in_deck, read_slots};
+use card_set::{CardRow, Slot, card_at, index_in_deck, read_slots};
 use hand_order::HandOrder;
 use std::alloc::AllocError;
 
@@ -46,11 +46,11 @@ pub fn hand_of(text: &str) -> Option<CardRow>
         let Slot::Known(card) = *slot else {
             return None
         };
-        if place_in_deck(card) < from || hand.len >= 7 {
+        if index_in_deck(card) < from || hand.len >= 7 {
             return None;
         }
         hand.push(card);
-        from = place_in_deck(card) + 1;
+        from = index_in_deck(card) + 1;
     }
     Some(hand)
 }

@@ -25,7 +25,7 @@ use Rattle.hand_differences.proofs.ExactTests.{exact_bytes, exact_clocks, exact_
 use Rattle.hand_differences.proofs.FirstNumbers.{find_never, none_of_same, same_of_none}
 use Rattle.hand_differences.proofs.SameCores.{AreAlike, one_trace}
 use Rattle.hand_differences.proofs.SameSetups.{no_rows, setup_of_rows}
-use Rattle.hand_differences.specs.FirstDifference.{PlainDifference, Note, Shown, card_difference, card_told, first_difference, first_row, is_same_note, move_difference, move_told, note_difference, play_difference, setup_rows, shown_difference}
+use Rattle.hand_differences.specs.FirstDifference.{PlainDifference, Note, Shown, card_difference, card_reported, first_difference, first_holding, is_same_note, move_difference, move_reported, note_difference, play_difference, setup_rows, shown_difference}
 use Rattle.hand_differences.specs.FirstNumbers.{entry_at, first_other_number, is_same_at}
 use Rattle.hand_differences.specs.SameParts.{is_same_clock, is_same_move, is_same_option, is_same_place, is_same_test, is_same_text}
 
@@ -177,7 +177,7 @@ none_of_notes a = ap (option_map Note) (no_note a note_names)
 -- what is compared of plays without a difference is the same
 alike_of_none : (play other : Play) → IsSound play → IsSound other → play_difference play other ≡ None → AreAlike play.trace other.trace
 alike_of_none play other sound too none =
-    let setups = neither (first_row (setup_rows play.trace.setup other.trace.setup)) _ none in
+    let setups = neither (first_holding (setup_rows play.trace.setup other.trace.setup)) _ none in
     let moved = neither (move_difference play.trace.moves other.trace.moves) _ setups.1 in
     let dealt = neither (card_difference play.trace.places other.trace.places) _ moved.1 in
     let setup : play.trace.setup ≡ other.trace.setup = setup_of_rows play.trace.setup other.trace.setup setups.0 in
@@ -185,8 +185,8 @@ alike_of_none play other sound too none =
     sound.trace.seats.shown ∙ ap (λ (s : Setup). s.stacks.seats) (sym sound.trace.same_setup ∙ setup ∙ too.trace.same_setup) ∙ sym too.trace.seats.shown in
     record {
       setup = setup;
-      moves = same_of_none is_same_move exact_moves play.trace.moves other.trace.moves (number_none is_same_move move_told play.trace.moves other.trace.moves moved.0);
-      places = same_of_none is_same_place exact_places play.trace.places other.trace.places (number_none is_same_place card_told play.trace.places other.trace.places dealt.0);
+      moves = same_of_none is_same_move exact_moves play.trace.moves other.trace.moves (number_none is_same_move move_reported play.trace.moves other.trace.moves moved.0);
+      places = same_of_none is_same_place exact_places play.trace.places other.trace.places (number_none is_same_place card_reported play.trace.places other.trace.places dealt.0);
       shown = shown_of_none play.trace.shown other.trace.shown seats dealt.1;
     }
 
@@ -197,8 +197,8 @@ made_of_none make (Some number) none = absurd (some_is_none none)
 -- a trace does not differ from itself
 none_of_trace : (play other : Play) → play.trace ≡ other.trace → play_difference play other ≡ None
 none_of_trace play other same =
-    subst (λ (trace : Trace). option_or (first_row (setup_rows play.trace.setup trace.setup)) (option_or (move_difference play.trace.moves trace.moves) (option_or (card_difference play.trace.places trace.places) (shown_difference play.trace.shown trace.shown))) ≡ None) same
-    (both (first_row (setup_rows play.trace.setup play.trace.setup)) _ (no_rows play.trace.setup)
+    subst (λ (trace : Trace). option_or (first_holding (setup_rows play.trace.setup trace.setup)) (option_or (move_difference play.trace.moves trace.moves) (option_or (card_difference play.trace.places trace.places) (shown_difference play.trace.shown trace.shown))) ≡ None) same
+    (both (first_holding (setup_rows play.trace.setup play.trace.setup)) _ (no_rows play.trace.setup)
     (both (move_difference play.trace.moves play.trace.moves) _ (made_of_none _ (first_other_number is_same_move play.trace.moves play.trace.moves) (none_of_same is_same_move exact_moves play.trace.moves))
     (both (card_difference play.trace.places play.trace.places) _ (made_of_none _ (first_other_number is_same_place play.trace.places play.trace.places) (none_of_same is_same_place exact_places play.trace.places))
     (none_of_shown play.trace.shown))))

@@ -9,7 +9,7 @@ use Rattle.hand_canon.proofs.SameSetups.{amounts_same, rakes_same, setups_same}
 use Rattle.play_event.specs.Code.{code_text}
 use Rattle.play_event.specs.declared.setup.Setup.{Setup}
 use Rattle.hand_differences.proofs.ExactTests.{exact_bytes, exact_tests, one_game}
-use Rattle.hand_differences.specs.FirstDifference.{PlainDifference, first_row, has_other_antes, has_other_sizes, setup_rows, Variant, SeatCount, Stacks, BetSizes, Antes, Blinds, Rake}
+use Rattle.hand_differences.specs.FirstDifference.{PlainDifference, first_holding, has_other_antes, has_other_sizes, setup_rows, Variant, SeatCount, Stacks, BetSizes, Antes, Blinds, Rake}
 use Rattle.hand_differences.specs.SameParts.{is_same_test}
 
 -- if no row is reported, the first does not hold
@@ -22,7 +22,7 @@ same_numbers : (xs ys : List ℕ) → not (bytes_eq xs ys) ≡ false → xs ≡ 
 same_numbers xs ys is = exact_bytes.one xs ys (not_not (bytes_eq xs ys) is)
 
 -- setups for which no row holds are equal
-pub setup_of_rows : (a b : Setup) → first_row (setup_rows a b) ≡ None → a ≡ b
+pub setup_of_rows : (a b : Setup) → first_holding (setup_rows a b) ≡ None → a ≡ b
 setup_of_rows a b none =
     let variant = no_row (not (bytes_eq (code_text a.code) (code_text b.code))) Variant _ none in
     let count = no_row (not (a.stacks.seats == b.stacks.seats)) SeatCount _ variant.1 in
@@ -67,7 +67,7 @@ own_antes : (a : Setup) → has_other_antes a a ≡ false
 own_antes a = ap not (and_from (bytes_eq (amounts_in a.antes) (amounts_in a.antes)) (is_same_test a.dead_antes a.dead_antes) (same_bytes (amounts_in a.antes)) (exact_tests.own a.dead_antes))
 
 -- and for equal setups none holds
-pub no_rows : (a : Setup) → first_row (setup_rows a a) ≡ None
+pub no_rows : (a : Setup) → first_holding (setup_rows a a) ≡ None
 no_rows a =
     row_passed _ Variant _ (own_numbers (code_text a.code))
     (row_passed _ SeatCount _ (ap not (eq-eqb a.stacks.seats a.stacks.seats refl))

@@ -75,30 +75,30 @@ setup_rows setup other =
     ∷ []
 
 -- the first row that holds, if one does
-abbrev pub first_row : List (Bool × PlainDifference) → Option PlainDifference
-first_row [] = None
-first_row (row ∷ rest) = if row.0 then Some row.1 else first_row rest
+abbrev pub first_holding : List (Bool × PlainDifference) → Option PlainDifference
+first_holding [] = None
+first_holding (row ∷ rest) = if row.0 then Some row.1 else first_holding rest
 
 -- what is reported of the move with this number, from 1
-abbrev pub move_told : ℕ → moves.Move → PlainDifference
-move_told number move = Move number move.street move.seat.number
+abbrev pub move_reported : ℕ → moves.Move → PlainDifference
+move_reported number move = Move number move.street move.seat.number
 
 -- the first move that differs
 abbrev pub move_difference : List moves.Move → List moves.Move → Option PlainDifference
 move_difference played others =
     option_and_then
-    (λ number. option_map (move_told number) (entry_at played others number))
+    (λ number. option_map (move_reported number) (entry_at played others number))
     (first_other_number is_same_move played others)
 
 -- what is reported of the dealt card with this number, from 1
-abbrev pub card_told : ℕ → places.Place → PlainDifference
-card_told number place = Card number place.street (owner_of place)
+abbrev pub card_reported : ℕ → places.Place → PlainDifference
+card_reported number place = Card number place.street (owner_of place)
 
 -- the first dealt card that differs
 abbrev pub card_difference : List places.Place → List places.Place → Option PlainDifference
 card_difference dealt others =
     option_and_then
-    (λ number. option_map (card_told number) (entry_at dealt others number))
+    (λ number. option_map (card_reported number) (entry_at dealt others number))
     (first_other_number is_same_place dealt others)
 
 -- the lowest seat that is shown in only one of two hands
@@ -130,7 +130,7 @@ note_difference notes other =
 -- what differs in two hands, leaving their notes aside
 abbrev pub play_difference : Play → Play → Option PlainDifference
 play_difference play other =
-    option_or (first_row (setup_rows play.trace.setup other.trace.setup))
+    option_or (first_holding (setup_rows play.trace.setup other.trace.setup))
     (option_or (move_difference play.trace.moves other.trace.moves)
     (option_or (card_difference play.trace.places other.trace.places)
     (shown_difference play.trace.shown other.trace.shown)))

@@ -39,7 +39,7 @@ pub fn first_difference(notes: bool, place: usize, play: &Play, other: &Play) ->
 
 // The first difference of two plays, leaving their notes aside.
 fn play_difference(play: &Play, other: &Play) -> Option<Difference>
-    ensures told { option_map difference_said result
+    ensures named { option_map difference_said result
         ≡ differences.play_difference play.now other.now }
     ensures seats { IfNone result
         (play.now.trace.setup.stacks.seats ≡ other.now.trace.setup.stacks.seats) }

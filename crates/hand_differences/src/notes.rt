@@ -3,7 +3,7 @@ ghost use Rattle.std.specs.Prelude.{◌≡◌, ◌≤◌, IfSome, bytes_eq, deci
 ghost use Rattle.std.proofs.Props.{props};
 ghost use Rattle.chip_ledger.specs.Seat.{seats_of};
 ghost use Rattle.hand_records.specs.AllowedNotes.{AreSeatNumbers};
-ghost use Rattle.hand_records.specs.SaidNotes.{kept_label, name_said, numbers_said, said_notes};
+ghost use Rattle.hand_records.specs.SaidNotes.{hand_name_noted, name_said, numbers_said, said_notes};
 ghost use Rattle.hand_differences.specs.BothAllowed.{AreBothAllowed};
 ghost use Rattle.hand_differences.specs.FirstDifference.{difference_said};
 ghost use Rattle.hand_differences.specs.FirstDifference as differences;
@@ -121,8 +121,8 @@ fn are_same_seats(count: u8, seats: &Option<[u8; 10]>, others: &Option<[u8; 10]>
 
 // The names of two hands are the same. A name that is the hand's place counts as missing.
 fn is_same_label(place: usize, label: &Option<Text>, other: &Option<Text>) -> bool
-    ensures { result ≡ same_parts.is_same_text (kept_label place label.now)
-        (kept_label place other.now) }
+    ensures { result ≡ same_parts.is_same_text (hand_name_noted place label.now)
+        (hand_name_noted place other.now) }
 {
     match (label_behind(place, label), label_behind(place, other)) {
         (Some(a), Some(b)) => a == b,
@@ -133,7 +133,7 @@ fn is_same_label(place: usize, label: &Option<Text>, other: &Option<Text>) -> bo
 
 // The name of a hand, unless it is the hand's place.
 fn label_behind<'a>(place: usize, label: &'a Option<Text>) -> Option<&'a [u8]>
-    ensures { option_map (λ text. text.now) result ≡ kept_label place label.now }
+    ensures { option_map (λ text. text.now) result ≡ hand_name_noted place label.now }
 {
     let Some(text) = label else {
         return None;

@@ -4,7 +4,7 @@ ghost use Rattle.play_event.specs.Said.{seat_named};
 ghost use Rattle.play_event.specs.Places as places;
 ghost use Rattle.hand_differences.specs.SameParts as same_parts;
 
-use card_set::{Slot, place_in_deck};
+use card_set::{Slot, index_in_deck};
 use chip_ledger::Seat;
 use play_event::{Act, Move, Place};
 
@@ -68,7 +68,7 @@ fn is_same_slot(a: Slot, b: Slot) -> bool
     ensures { result ≡ same_parts.is_same_slot a b }
 {
     match (a, b) {
-        (Slot::Known(card), Slot::Known(other)) => place_in_deck(card) == place_in_deck(other),
+        (Slot::Known(card), Slot::Known(other)) => index_in_deck(card) == index_in_deck(other),
         (Slot::Unknown, Slot::Unknown) => true,
         (Slot::Known(_), Slot::Unknown) | (Slot::Unknown, Slot::Known(_)) => false,
     }

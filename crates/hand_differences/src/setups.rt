@@ -2,7 +2,7 @@
 ghost use Rattle.std.specs.Prelude.{◌≡◌, IfNone, bytes_eq, not, option_map};
 ghost use Rattle.chip_ledger.specs.SeatRow.{amounts_in};
 ghost use Rattle.play_event.specs.Code.{code_text};
-ghost use Rattle.hand_differences.specs.FirstDifference.{difference_said, first_row, setup_rows};
+ghost use Rattle.hand_differences.specs.FirstDifference.{difference_said, first_holding, setup_rows};
 ghost use Rattle.hand_differences.specs.FirstDifference as differences;
 
 use crate::difference::Difference;
@@ -12,7 +12,7 @@ use play_event::{Code, Setup};
 
 // The first part in which two setups differ.
 pub(crate) fn setup_difference(a: &Setup, b: &Setup) -> Option<Difference>
-    ensures told { option_map difference_said result ≡ first_row (setup_rows a.now b.now) }
+    ensures named { option_map difference_said result ≡ first_holding (setup_rows a.now b.now) }
     ensures seats { IfNone result (a.now.stacks.seats ≡ b.now.stacks.seats) }
 {
     if is_other_code(a.code, b.code) {

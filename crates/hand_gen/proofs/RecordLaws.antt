@@ -11,7 +11,7 @@ use Rattle.hand_records.specs.declared.notes.Notes.{Notes}
 use Rattle.hand_records.specs.declared.record.Stated.{Stated}
 use Rattle.hand_records.specs.declared.trace.Play.{Play}
 use Rattle.hand_records.specs.declared.trace.Trace.{Trace}
-use Rattle.hand_canon.specs.Agreement.{finish_compared, first_difference, is_different, row_compared, total_compared, value_compared, win_compared}
+use Rattle.hand_canon.specs.Agreement.{finish_compared, first_difference, is_different, seats_compared, total_compared, value_compared, win_compared}
 use Rattle.hand_canon.specs.Sound.{IsSound}
 use Rattle.hand_records.specs.StatedFacts.{IsNothingStated}
 use Rattle.hand_gen.specs.Sound.{IsSoundHand}
@@ -55,10 +55,10 @@ same_source stock number deck number_is deck_is =
 nothing_differs : (trace : Trace) (stated : Stated) → IsNothingStated stated → first_difference trace stated ≡ None
 nothing_differs trace stated is =
     ap (find is_different)
-    (ap (λ o. row_compared trace finish_compared o ++ (row_compared trace win_compared stated.wins ++ (total_compared trace stated.pot_total ++ row_compared trace value_compared stated.values))) is.finish
-    ∙ ap (λ o. row_compared trace win_compared o ++ (total_compared trace stated.pot_total ++ row_compared trace value_compared stated.values)) is.wins
-    ∙ ap (λ o. total_compared trace o ++ row_compared trace value_compared stated.values) is.pot_total
-    ∙ ap (row_compared trace value_compared) is.values)
+    (ap (λ o. seats_compared trace finish_compared o ++ (seats_compared trace win_compared stated.wins ++ (total_compared trace stated.pot_total ++ seats_compared trace value_compared stated.values))) is.finish
+    ∙ ap (λ o. seats_compared trace win_compared o ++ (total_compared trace stated.pot_total ++ seats_compared trace value_compared stated.values)) is.wins
+    ∙ ap (λ o. total_compared trace o ++ seats_compared trace value_compared stated.values) is.pot_total
+    ∙ ap (seats_compared trace value_compared) is.values)
 
 -- the record of a sound play that states nothing is sound
 pub sound_hand : (play : Play) → IsSound play → IsNothingStated play.hand.stated → IsSoundHand play.hand

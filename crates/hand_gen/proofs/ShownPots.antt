@@ -4,7 +4,7 @@ use Rattle.std.proofs.Common.{◌≡◌, ℕ, suc, ◌≤◌, Bool, true, false,
 use Rattle.std.specs.List.{list_any}
 use Rattle.std.proofs.lemmas.Bool.{and_from, and_parts, le-leb, leb-true}
 use Rattle.std.proofs.lemmas.List.Sums.{length-filter}
-use Rattle.chip_ledger.specs.Pots.{PlainPot, Stake, after_return, is_reached_by_all, kept, layers, levels, may_win, pots_at, pots_of, reaching, with_chips, with_dead}
+use Rattle.chip_ledger.specs.Pots.{PlainPot, Stake, after_return, is_reached_by_all, layers, levels, may_win, pots_at, pots_of, reaching, with_chips, with_dead, without_returned}
 use Rattle.card_set.proofs.Counting.{counted_some, counts_fewer}
 use Rattle.card_set.proofs.NumbersOfRange.{any_in_range, is_in, some_in_range}
 use Rattle.card_set.proofs.Tests.{not_true}
@@ -20,7 +20,7 @@ use Rattle.variant_table.specs.Shares.{Showdown, first_unshown_from, is_contende
 module _ (setup : Setup) (past : Past) where
   -- the stake of a seat when chips are returned
   abbrev pub left_of : ℕ → Stake
-  left_of seat = kept (stakes_after setup (moves_of past)) (stake_after setup (moves_of past) seat)
+  left_of seat = without_returned (stakes_after setup (moves_of past)) (stake_after setup (moves_of past) seat)
 
   -- a live seat reaches a level
   abbrev pub is_at : ℕ → ℕ → Bool
@@ -35,7 +35,7 @@ module _ (setup : Setup) (past : Past) where
       by_test true later = ap (λ l. seat ∷ l) later
       by_test false later = later
 
-  pub stakes_left : (seats : List ℕ) → map (kept (stakes_after setup (moves_of past))) (map (stake_after setup (moves_of past)) seats) ≡ map left_of seats
+  pub stakes_left : (seats : List ℕ) → map (without_returned (stakes_after setup (moves_of past))) (map (stake_after setup (moves_of past)) seats) ≡ map left_of seats
   stakes_left [] = refl
   stakes_left (seat ∷ rest) = ap (λ l. left_of seat ∷ l) (stakes_left rest)
 

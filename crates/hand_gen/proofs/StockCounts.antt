@@ -6,7 +6,7 @@ use Rattle.std.proofs.lemmas.Bool.{eqb-true}
 use Rattle.std.proofs.lemmas.List.Edits.{length-remove}
 use Rattle.std.proofs.lemmas.Nat.{mod_below}
 use Rattle.card_set.specs.declared.card.Card.{Card}
-use Rattle.card_set.specs.Deck.{card_placed, deck_place, is_same_card}
+use Rattle.card_set.specs.Deck.{card_with_index, deck_index, is_same_card}
 use Rattle.card_set.proofs.Counting.{count_agree, count_by-cons, count_by-map, count_one}
 use Rattle.card_set.proofs.NumbersOfRange.{all_at}
 use Rattle.play_event.specs.declared.code.Code.{Code}
@@ -31,7 +31,7 @@ pub taken_counts : (p : Card → Bool) (count : ℕ) (stock : HandSource) → co
 taken_counts p zero stock enough = omega arith
 taken_counts p (suc count) stock enough =
     let place : next_place stock < length stock.deck = drawn_within (length stock.deck) (next_number stock.number) (omega (arith, enough)) in
-    let here = taken_out p stock.deck (next_place stock) (card_placed 0) place in
+    let here = taken_out p stock.deck (next_place stock) (card_with_index 0) place in
     omega (
       arith,
       here,
@@ -45,10 +45,10 @@ taken_length zero stock = refl
 taken_length (suc count) stock = ap suc (taken_length count (after_card stock))
 
 -- the places of the deck
-placed_again : (place : ℕ) → place < 52 → deck_place (card_placed place) ≡ place
-unfolding card_placed
+placed_again : (place : ℕ) → place < 52 → deck_index (card_with_index place) ≡ place
+unfolding card_with_index
 placed_again place within =
-    eqb-true (deck_place (card_placed place)) place (all_at (λ k. deck_place (card_placed k) == k) 0 52 place refl (omega arith) (omega (arith, within)))
+    eqb-true (deck_index (card_with_index place)) place (all_at (λ k. deck_index (card_with_index k) == k) 0 52 place refl (omega arith) (omega (arith, within)))
 
 kept_fewer : (p q : Card → Bool) (cards : List Card) → count_by p (filter q cards) ≤ count_by p cards
 kept_fewer p q [] = omega arith
@@ -62,9 +62,9 @@ kept_fewer p q (card ∷ rest) = by_test (q card) (kept_fewer p q rest)
 pub once_in_deck : (code : Code) (card : Card) → count_by (is_same_card card) (full_deck code) ≤ 1
 once_in_deck code card =
     let all : List ℕ = range_with_len 0 52 in
-    let places : count_by (λ place. is_same_card card (card_placed place)) all ≡ count_by (λ place. deck_place card == place) all =
-    count_agree (λ place. is_same_card card (card_placed place)) (λ place. deck_place card == place) 0 52 (λ place low high. ap (λ n. deck_place card == n) (placed_again place (omega (arith, high)))) in
-    omega (arith, kept_fewer (is_same_card card) (is_in_deck code) (map card_placed all), count_by-map (is_same_card card) card_placed all, places, count_one (deck_place card) 0 52)
+    let places : count_by (λ place. is_same_card card (card_with_index place)) all ≡ count_by (λ place. deck_index card == place) all =
+    count_agree (λ place. is_same_card card (card_with_index place)) (λ place. deck_index card == place) 0 52 (λ place low high. ap (λ n. deck_index card == n) (placed_again place (omega (arith, high)))) in
+    omega (arith, kept_fewer (is_same_card card) (is_in_deck code) (map card_with_index all), count_by-map (is_same_card card) card_with_index all, places, count_one (deck_index card) 0 52)
 
 -- and all of its cards are in it
 kept_pass : (q : Card → Bool) (cards : List Card) → count_by (λ card. not (q card)) (filter q cards) ≡ 0
@@ -76,11 +76,11 @@ kept_pass q (card ∷ rest) = by_test (q card) refl (kept_pass q rest)
     by_test false is none = none
 
 pub all_in_deck : (code : Code) → count_by (λ card. not (is_in_deck code card)) (full_deck code) ≡ 0
-all_in_deck code = kept_pass (is_in_deck code) (map card_placed (range_with_len 0 52))
+all_in_deck code = kept_pass (is_in_deck code) (map card_with_index (range_with_len 0 52))
 
 -- as many as the game has
 pub deck_length : (code : Code) → length (full_deck code) ≡ deck_of code
-unfolding card_placed
+unfolding card_with_index
 deck_length games.FT = refl
 deck_length games.NT = refl
 deck_length games.NS = refl

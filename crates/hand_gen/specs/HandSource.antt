@@ -2,7 +2,7 @@
 use Rattle.std.specs.Prelude.{ℕ, zero, suc, List, [], ◌∷◌, length, map, filter, slice_get, unwrap_or}
 use Rattle.std.specs.List.{range_with_len, remove}
 use Rattle.card_set.specs.declared.card.Card.{Card}
-use Rattle.card_set.specs.Deck.{card_placed}
+use Rattle.card_set.specs.Deck.{card_with_index}
 use Rattle.play_event.specs.declared.code.Code.{Code}
 use Rattle.play_event.specs.Taken.{is_in_deck}
 use Rattle.hand_gen.specs.Draws.{drawn, next_number}
@@ -14,7 +14,7 @@ pub record HandSource : Type 0 where
 
 -- the whole deck of a game: by rank from the lowest, and then by suit c, d, h, s
 abbrev pub full_deck : Code → List Card
-full_deck code = filter (is_in_deck code) (map card_placed (range_with_len 0 52))
+full_deck code = filter (is_in_deck code) (map card_with_index (range_with_len 0 52))
 
 -- what is drawn next, among this number of choices
 abbrev pub draw_of : ℕ → HandSource → ℕ
@@ -30,7 +30,7 @@ next_place stock = draw_of (length stock.deck) stock
 
 -- the next card; for an empty deck, from which no hand takes a card, the two of clubs
 abbrev pub next_card : HandSource → Card
-next_card stock = unwrap_or (slice_get stock.deck (next_place stock)) (card_placed 0)
+next_card stock = unwrap_or (slice_get stock.deck (next_place stock)) (card_with_index 0)
 
 -- the stock without it
 abbrev pub after_card : HandSource → HandSource

@@ -1,7 +1,7 @@
 //! Which event of a made hand comes next.
 ghost use Rattle.std.specs.Prelude.{◌≡◌};
 ghost use Rattle.play_event.specs.declared.reason.Due.TheVariants as dues;
-ghost use Rattle.replay_core.specs.Told.{WhereTogether};
+ghost use Rattle.replay_core.specs.AddedMoves.{WhereTogether};
 ghost use Rattle.betting_numbers.specs.TurnSaid.{in_turn_on};
 ghost use Rattle.hand_gen.specs.Coming.{bring_in_comes, coming, move_comes};
 ghost use Rattle.hand_gen.specs.Seen.{event_said};

@@ -5,7 +5,7 @@ ghost use Rattle.hand_gen.specs.HandSource as stocks;
 
 use crate::draws::{drawn, next_number};
 use card_places::DealTable;
-use card_set::{Card, CardRow, Memory, TryPush, card_placed};
+use card_set::{Card, CardRow, Memory, TryPush, card_with_index};
 use play_event::Code;
 use std::alloc::Global;
 use std::marker::Model;
@@ -75,7 +75,7 @@ impl HandSource {
     {
         self.number = next_number(self.number);
         if self.deck.is_empty() {
-            return card_placed(0);
+            return card_with_index(0);
         }
         let place = drawn(self.deck.len() as u64, self.number) as usize;
         self.deck.remove(place)
@@ -89,7 +89,7 @@ fn full_deck(alloc: Global, code: Code) -> Result<Vec<Card>, Memory>
     let table = DealTable::of(code);
     let mut deck = Vec::new(alloc);
     for place in 0..52 {
-        let card = card_placed(place);
+        let card = card_with_index(place);
         match push_if(&mut deck, table.in_deck(card), card) {
             Ok(()) => {}
             Err(memory) => return Err(memory),

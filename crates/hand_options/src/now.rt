@@ -2,7 +2,7 @@
 ghost use Rattle.std.specs.Prelude.{◌≡◌, true, IfNone};
 ghost use Rattle.hand_options.specs.Legal.{AreOptions, IsUndecided};
 ghost use Rattle.play_event.specs.TurnTargets.{is_bet_due};
-ghost use Rattle.replay_core.specs.Told.{WhereTogether};
+ghost use Rattle.replay_core.specs.AddedMoves.{WhereTogether};
 
 use crate::choices::Options;
 use crate::seat_choices::{no_options, options_of};

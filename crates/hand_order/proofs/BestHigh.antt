@@ -7,8 +7,8 @@ use Rattle.card_set.specs.declared.card.Suit.TheVariants as suits
 use Rattle.card_set.specs.Deck.{suits_before}
 use Rattle.card_set.specs.Different.{Every, AllDifferent}
 use Rattle.card_set.specs.Ranks.{times, ranks_of, high_ace, is_one_suit}
-use Rattle.hand_order.specs.declared.ladder.FlushPlace.{FlushPlace}
-use Rattle.hand_order.specs.declared.ladder.FlushPlace.TheVariants as flushes
+use Rattle.hand_order.specs.declared.ladder.FlushRank.{FlushRank}
+use Rattle.hand_order.specs.declared.ladder.FlushRank.TheVariants as flushes
 use Rattle.hand_order.specs.declared.straights.LowStraight.{LowStraight}
 use Rattle.hand_order.specs.Choices.{choices, IsAmong, AreHeld}
 use Rattle.hand_order.specs.Digits.{class_above, AreDigits}
@@ -51,7 +51,7 @@ fits_digits : (cards : List Card) (hs : List ℕ) → Fits (times high_ace cards
 fits_digits cards hs fits = digits_of (times high_ace cards) (pattern 0) hs (times_of_ranks high_ace cards) ones_alone.some fits
 
 -- the best of each reading of the cards
-pub record AreBest (flush : FlushPlace) (low : LowStraight) (cards : List Card) (class : ℕ) (hs : List ℕ) (top clubs diamonds hearts spades : ℕ) : Type 0 where
+pub record AreBest (flush : FlushRank) (low : LowStraight) (cards : List Card) (class : ℕ) (hs : List ℕ) (top clubs diamonds hearts spades : ℕ) : Type 0 where
   pub plain : IsBestPattern (times high_ace cards) class hs
   pub above : (other : ℕ) → HasStraight low (times high_ace cards) other → other ≤ top
   pub found : (top ≡ 0) ⊎ HasStraight low (times high_ace cards) top
@@ -61,16 +61,16 @@ pub record AreBest (flush : FlushPlace) (low : LowStraight) (cards : List Card) 
   pub of_spades : IsBestOfSuit flush low (times high_ace (filter (of_suit 3) cards)) spades
 
 -- a choice has at least less
-less_chosen : (flush : FlushPlace) (low : LowStraight) (cards : List Card) (less least : ℕ) → less ≤ least → IsChosen flush low cards least → IsChosen flush low cards less
+less_chosen : (flush : FlushRank) (low : LowStraight) (cards : List Card) (less least : ℕ) → less ≤ least → IsChosen flush low cards least → IsChosen flush low cards less
 less_chosen flush low cards less least below chosen = record { choice = chosen.choice; among = chosen.among; reached = omega (arith, chosen.reached) }
 
 -- the greater of two that are reached is reached
-max_chosen : (flush : FlushPlace) (low : LowStraight) (cards : List Card) (a b : ℕ) → IsChosen flush low cards a → IsChosen flush low cards b → IsChosen flush low cards (max a b)
+max_chosen : (flush : FlushRank) (low : LowStraight) (cards : List Card) (a b : ℕ) → IsChosen flush low cards a → IsChosen flush low cards b → IsChosen flush low cards (max a b)
 max_chosen flush low cards a b one other =
     elim (cases_lt a b) [ inl less ↦ less_chosen flush low cards (max a b) b (omega arith) other | inr least ↦ less_chosen flush low cards (max a b) a (omega arith) one ]
 
 -- the best of a suit is reached
-suit_chosen : (flush : FlushPlace) (low : LowStraight) (cards : List Card) (s most : ℕ) → AllDifferent cards → IsBestOfSuit flush low (times high_ace (filter (of_suit s) cards)) most → IsChosen flush low cards 0 → IsChosen flush low cards most
+suit_chosen : (flush : FlushRank) (low : LowStraight) (cards : List Card) (s most : ℕ) → AllDifferent cards → IsBestOfSuit flush low (times high_ace (filter (of_suit s) cards)) most → IsChosen flush low cards 0 → IsChosen flush low cards most
 suit_chosen flush low cards s most different best none =
     elim best.reached [
       | inl nothing ↦ less_chosen flush low cards most 0 (omega arith) none
@@ -85,7 +85,7 @@ suit_chosen flush low cards s most different best none =
     ]
 
 -- the best straight is reached
-straight_chosen : (flush : FlushPlace) (low : LowStraight) (cards : List Card) (top : ℕ) → AllDifferent cards → (top ≡ 0) ⊎ HasStraight low (times high_ace cards) top → IsChosen flush low cards 0 → IsChosen flush low cards (topped 4 top)
+straight_chosen : (flush : FlushRank) (low : LowStraight) (cards : List Card) (top : ℕ) → AllDifferent cards → (top ≡ 0) ⊎ HasStraight low (times high_ace cards) top → IsChosen flush low cards 0 → IsChosen flush low cards (topped 4 top)
 straight_chosen flush low cards top different found none =
     elim found [
       | inl nothing ↦ less_chosen flush low cards (topped 4 top) 0 (omega (arith, topped_none 4 top nothing)) none
@@ -97,7 +97,7 @@ straight_chosen flush low cards top different found none =
     ]
 
 -- no choice has more
-over : (flush : FlushPlace) (low : LowStraight) (cards : List Card) (class : ℕ) (hs : List ℕ) (top clubs diamonds hearts spades most : ℕ) → AllDifferent cards → AreBest flush low cards class hs top clubs diamonds hearts spades → most ≡ max (max (max (max (max (class_above (flush_ranked flush class) hs) (topped 4 top)) clubs) diamonds) hearts) spades
+over : (flush : FlushRank) (low : LowStraight) (cards : List Card) (class : ℕ) (hs : List ℕ) (top clubs diamonds hearts spades most : ℕ) → AllDifferent cards → AreBest flush low cards class hs top clubs diamonds hearts spades → most ≡ max (max (max (max (max (class_above (flush_ranked flush class) hs) (topped 4 top)) clubs) diamonds) hearts) spades
     → (other : List Card) → IsAmong other (choices 5 cards) → ladder_points flush low other ≤ most
 over flush low cards class hs top clubs diamonds hearts spades most different best is other among =
     let held = held_chosen 5 cards other different among in
@@ -139,7 +139,7 @@ over flush low cards class hs top clubs diamonds hearts spades most different be
         all (suit_fits (suits_before card.suit) cards (card ∷ rest) (suited_every card rest suited) among held suited)
 
 -- the greatest of all is that of the choices
-pub high_best : (flush : FlushPlace) (low : LowStraight) (cards : List Card) (class : ℕ) (hs : List ℕ) (top clubs diamonds hearts spades most : ℕ) → AllDifferent cards → AreBest flush low cards class hs top clubs diamonds hearts spades → most ≡ max (max (max (max (max (class_above (flush_ranked flush class) hs) (topped 4 top)) clubs) diamonds) hearts) spades
+pub high_best : (flush : FlushRank) (low : LowStraight) (cards : List Card) (class : ℕ) (hs : List ℕ) (top clubs diamonds hearts spades most : ℕ) → AllDifferent cards → AreBest flush low cards class hs top clubs diamonds hearts spades → most ≡ max (max (max (max (max (class_above (flush_ranked flush class) hs) (topped 4 top)) clubs) diamonds) hearts) spades
     → greatest (λ choice. Some (ladder_points flush low choice)) (choices 5 cards) ≡ Some most
 high_best flush low cards class hs top clubs diamonds hearts spades most different best is =
     let plain = pattern_reached flush low cards class hs different best.plain in
@@ -172,7 +172,7 @@ class_few class kind = elim (pattern_cases class kind) [
 ]
 
 -- the class of a pattern is at most seven
-pub leveled_few : (flush : FlushPlace) (class : ℕ) → IsPattern class → flush_ranked flush class ≤ 15
+pub leveled_few : (flush : FlushRank) (class : ℕ) → IsPattern class → flush_ranked flush class ≤ 15
 leveled_few flushes.BelowFullHouse class kind = class_few class kind
 leveled_few flushes.AboveFullHouse class kind = by_test (class == 6) (class_few class kind)
   where

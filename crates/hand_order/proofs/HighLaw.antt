@@ -3,11 +3,11 @@
 use Rattle.std.proofs.Common.{◌≡◌, ℕ, ◌+◌, ◌*◌, ◌^◌, ◌<◌, ◌≤◌, ◌==◌, ◌||◌, Bool, true, false, cond, List, [], ◌∷◌, length, get_or, inl, inr, ◌↔◌, refl, sym, ◌∙◌, ap, arith}
 use Rattle.std.proofs.lemmas.Bool.{or_cases}
 use Rattle.card_set.specs.declared.card.Card.{Card}
-use Rattle.card_set.specs.Classes.{place}
+use Rattle.card_set.specs.Classes.{classes_above}
 use Rattle.card_set.specs.Ranks.{high_ace, ranks_occurring, ranks_of, is_one_suit}
 use Rattle.card_set.proofs.Counted.{IsHeight-high_ace, few_times, counted, all_once, once_in_suit, length-ranks_of, ranks_of-le}
 use Rattle.hand_order.specs.declared.straights.LowStraight.{LowStraight}
-use Rattle.hand_order.specs.declared.ladder.FlushPlace.TheVariants as flushes
+use Rattle.hand_order.specs.declared.ladder.FlushRank.TheVariants as flushes
 use Rattle.hand_order.specs.Choices.{AreHeld}
 use Rattle.hand_order.specs.Ladder.{ladder_points}
 use Rattle.hand_order.specs.Digits.{with_digits}
@@ -97,12 +97,12 @@ decide_below low cards five = number_below (deciding_ranks low cards) (few_decid
 
 -- what a table of classes says of its hands
 abbrev pub TableSays : (ℕ → ℕ → ℕ → Bool → Bool → List Bool) → List ℕ → ℕ → ℕ → ℕ → ℕ → Bool → Bool → Type 0
-TableSays table missing four three two one straight flush = (place (table four three two straight flush) ≤ 8) × (cond straight 1 (four + three + two + one) + get_or missing (place (table four three two straight flush)) 0 ≡ 5)
+TableSays table missing four three two one straight flush = (classes_above (table four three two straight flush) ≤ 8) × (cond straight 1 (four + three + two + one) + get_or missing (classes_above (table four three two straight flush)) 0 ≡ 5)
 
 -- a hand of five different cards is ranked by a table that says this for each way in which ranks
 -- occur
 pub ranked_by : (table : ℕ → ℕ → ℕ → Bool → Bool → List Bool) (missing : List ℕ) → ((four three two one : ℕ) (straight flush : Bool) → 4 * four + 3 * three + 2 * two + one ≡ 5 → (straight ≡ true → four + three + two + one ≡ 5) → (flush ≡ true → four + three + two + one ≡ 5) → TableSays table missing four three two one straight flush)
-    → (low : LowStraight) (class : List Card → ℕ) (cards : List Card) → AreHeld 5 cards → class cards ≡ place (table (ranks_occurring high_ace cards 4) (ranks_occurring high_ace cards 3) (ranks_occurring high_ace cards 2) (is_straight low cards) (is_one_suit cards)) → IsRanked class (deciding_ranks low) missing 8 5 cards
+    → (low : LowStraight) (class : List Card → ℕ) (cards : List Card) → AreHeld 5 cards → class cards ≡ classes_above (table (ranks_occurring high_ace cards 4) (ranks_occurring high_ace cards 3) (ranks_occurring high_ace cards 2) (is_straight low cards) (is_one_suit cards)) → IsRanked class (deciding_ranks low) missing 8 5 cards
 ranked_by table missing every low class cards held is =
     let five = five_cards cards held in
     let says = every (ranks_occurring high_ace cards 4) (ranks_occurring high_ace cards 3) (ranks_occurring high_ace cards 2) (ranks_occurring high_ace cards 1) (is_straight low cards) (is_one_suit cards) five.all (straights_of_five low cards) five.flushes in

@@ -6,8 +6,8 @@ use Rattle.card_set.specs.declared.card.Card.{Card}
 use Rattle.card_set.specs.declared.card.Rank.{Rank}
 use Rattle.card_set.specs.Ranks.{times, ranks_of, ranks_occurring, high_ace, is_one_suit}
 use Rattle.card_set.proofs.Counted.{IsHeight-high_ace, times-none, times-cons, all_times, ranks_occurring_count, ranks_of-le}
-use Rattle.hand_order.specs.declared.ladder.FlushPlace.{FlushPlace}
-use Rattle.hand_order.specs.declared.ladder.FlushPlace.TheVariants as flushes
+use Rattle.hand_order.specs.declared.ladder.FlushRank.{FlushRank}
+use Rattle.hand_order.specs.declared.ladder.FlushRank.TheVariants as flushes
 use Rattle.hand_order.specs.declared.straights.LowStraight.TheVariants as straights
 use Rattle.card_set.specs.Different.{AllDifferent}
 use Rattle.hand_order.specs.Choices.{choices, IsAmong, AreHeld}
@@ -25,7 +25,7 @@ use Rattle.hand_order.proofs.OwnRanks.{several, InRange-high_ace, own_picked}
 use Rattle.hand_order.specs.Patterns.{without, Within, Fits, IsPicked, among_numbers, plain_class, pattern, IsPattern, IsBestPattern}
 
 -- the points of a hand without straights and flushes
-abbrev pub plain_points : FlushPlace → List Card → ℕ
+abbrev pub plain_points : FlushRank → List Card → ℕ
 plain_points flush cards = class_above (flush_ranked flush (plain_class (ranks_occurring high_ace cards 4) (ranks_occurring high_ace cards 3) (ranks_occurring high_ace cards 2))) (ranks_of high_ace cards)
 
 pub four_and_one : IsPattern 7
@@ -74,7 +74,7 @@ fits_class cards k hs held kind fits =
     ∙ kind.class
 
 -- a hand is at least what heights that fit its counts make
-pub plain_least : (flush : FlushPlace) (cards : List Card) (k : ℕ) (hs : List ℕ) → AreHeld 5 cards → IsPattern k → Fits (times high_ace cards) (pattern k) hs → AreDigits hs → class_above (flush_ranked flush k) hs ≤ plain_points flush cards
+pub plain_least : (flush : FlushRank) (cards : List Card) (k : ℕ) (hs : List ℕ) → AreHeld 5 cards → IsPattern k → Fits (times high_ace cards) (pattern k) hs → AreDigits hs → class_above (flush_ranked flush k) hs ≤ plain_points flush cards
 plain_least flush cards k hs held kind fits digits =
     let class = fits_class cards k hs held kind fits in
     let own = subst (λ (m : ℕ). IsPicked (times high_ace cards) (pattern m) (ranks_of high_ace cards)) class (hand_picked cards held) in
@@ -117,7 +117,7 @@ plain_apart j kind = elim (pattern_cases j kind) [
 ]
 
 -- classes stay in order if a flush ranks above a full house
-pub leveled_rises : (flush : FlushPlace) (j k : ℕ) → IsPattern j → j < k → flush_ranked flush j < flush_ranked flush k
+pub leveled_rises : (flush : FlushRank) (j k : ℕ) → IsPattern j → j < k → flush_ranked flush j < flush_ranked flush k
 leveled_rises flushes.BelowFullHouse j k kind less = less
 leveled_rises flushes.AboveFullHouse j k kind less = by_tests (j == 6) refl (k == 6) refl
   where
@@ -143,7 +143,7 @@ choice_within height (suc n) (card ∷ rest) choice among h =
     ]
 
 -- no choice is greater
-pub plain_most : (flush : FlushPlace) (cards choice : List Card) (k : ℕ) (hs : List ℕ) → IsBestPattern (times high_ace cards) k hs → IsAmong choice (choices 5 cards) → AreHeld 5 choice → plain_points flush choice ≤ class_above (flush_ranked flush k) hs
+pub plain_most : (flush : FlushRank) (cards choice : List Card) (k : ℕ) (hs : List ℕ) → IsBestPattern (times high_ace cards) k hs → IsAmong choice (choices 5 cards) → AreHeld 5 choice → plain_points flush choice ≤ class_above (flush_ranked flush k) hs
 plain_most flush cards choice k hs best among held =
     let within = choice_within high_ace 5 cards choice among in
     let own = hand_picked choice held in
@@ -162,13 +162,13 @@ plain_most flush cards choice k hs best among held =
     ]
 
 -- and some choice reaches it
-pub record IsReached (flush : FlushPlace) (cards : List Card) (most : ℕ) : Type 0 where
+pub record IsReached (flush : FlushRank) (cards : List Card) (most : ℕ) : Type 0 where
   pub choice : List Card
   pub among : IsAmong choice (choices 5 cards)
   pub held : AreHeld 5 choice
   pub reached : most ≤ plain_points flush choice
 
-pub plain_reached : (flush : FlushPlace) (cards : List Card) (k : ℕ) (hs : List ℕ) → AllDifferent cards → IsBestPattern (times high_ace cards) k hs → IsReached flush cards (class_above (flush_ranked flush k) hs)
+pub plain_reached : (flush : FlushRank) (cards : List Card) (k : ℕ) (hs : List ℕ) → AllDifferent cards → IsBestPattern (times high_ace cards) k hs → IsReached flush cards (class_above (flush_ranked flush k) hs)
 plain_reached flush cards k hs different best =
     let found = fitting high_ace IsHeight-high_ace (pattern k) hs cards best.kind.some (picked_fits (times high_ace cards) (pattern k) hs best.picked) in
     let among = subst (λ (n : ℕ). IsAmong found.choice (choices n cards)) best.kind.five found.among in

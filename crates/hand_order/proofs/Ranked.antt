@@ -3,7 +3,7 @@ use Rattle.std.proofs.Common.{◌≡◌, ℕ, ◌+◌, ◌-◌, ◌*◌, ◌^◌
 use Rattle.card_set.specs.declared.card.Card.{Card}
 use Rattle.card_set.specs.declared.card.Rank.{Rank}
 use Rattle.card_set.specs.Different.{AllDifferent}
-use Rattle.card_set.specs.Classes.{place, IsBelow, IsBelowLow}
+use Rattle.card_set.specs.Classes.{classes_above, IsBelow, IsBelowLow}
 use Rattle.card_set.specs.Ranks.{ranks_occurring, ranks_of}
 use Rattle.card_set.proofs.Counted.{IsHeight, few_times, counted, length-ranks_of, ranks_of-le}
 use Rattle.hand_order.specs.Digits.{class_above}
@@ -53,11 +53,11 @@ ranked_low_law class list missing last total a b few is_a is_b =
 
 -- what a table of classes without straights and flushes says of its hands
 abbrev pub PlainSays : (ℕ → ℕ → ℕ → List Bool) → List ℕ → ℕ → ℕ → ℕ → ℕ → ℕ → ℕ → Type 0
-PlainSays table missing last most four three two one = 4 * four + 3 * three + 2 * two + one ≤ most → (place (table four three two) ≤ last) × (3 * four + 2 * three + two ≡ get_or missing (place (table four three two)) 0)
+PlainSays table missing last most four three two one = 4 * four + 3 * three + 2 * two + one ≤ most → (classes_above (table four three two) ≤ last) × (3 * four + 2 * three + two ≡ get_or missing (classes_above (table four three two)) 0)
 
 -- hands are ranked by a table that says this for each way in which ranks occur
 pub ranked_plain : (table : ℕ → ℕ → ℕ → List Bool) (missing : List ℕ) (last most : ℕ) → ((four three two one : ℕ) → PlainSays table missing last most four three two one)
-    → (height : Rank → ℕ) → IsHeight height → ((cards : List Card) → AreDigits (ranks_of height cards)) → (class : List Card → ℕ) (cards : List Card) → most ≤ 5 → length cards ≤ most → AllDifferent cards → class cards ≡ place (table (ranks_occurring height cards 4) (ranks_occurring height cards 3) (ranks_occurring height cards 2)) → IsRanked class (ranks_of height) missing last (length cards) cards
+    → (height : Rank → ℕ) → IsHeight height → ((cards : List Card) → AreDigits (ranks_of height cards)) → (class : List Card → ℕ) (cards : List Card) → most ≤ 5 → length cards ≤ most → AllDifferent cards → class cards ≡ classes_above (table (ranks_occurring height cards 4) (ranks_occurring height cards 3) (ranks_occurring height cards 2)) → IsRanked class (ranks_of height) missing last (length cards) cards
 ranked_plain table missing last most every height is_height digits class cards most_few few different is =
     let all = counted height is_height cards (few_times height is_height cards different) in
     let says = every (ranks_occurring height cards 4) (ranks_occurring height cards 3) (ranks_occurring height cards 2) (ranks_occurring height cards 1) (omega arith) in

@@ -6,7 +6,7 @@ use Rattle.std.proofs.lemmas.Nat.{and_le_l}
 use Rattle.std.proofs.lemmas.Nat.Bits.{bit_at_above}
 use Rattle.card_set.specs.Ranks.{high_ace}
 use Rattle.card_set.proofs.Counted.{IsHeight-high_ace}
-use Rattle.hand_order.specs.declared.ladder.FlushPlace.{FlushPlace}
+use Rattle.hand_order.specs.declared.ladder.FlushRank.{FlushRank}
 use Rattle.hand_order.specs.declared.straights.LowStraight.{LowStraight}
 use Rattle.hand_order.specs.declared.straights.LowStraight.TheVariants as straights
 use Rattle.hand_order.specs.Digits.{class_above, with_digits, AreDigits}
@@ -81,7 +81,7 @@ pub tops_below : (n mask : ℕ) → n ≤ 5 → mask < 2 ^ 13 → with_digits 0 
 tops_below n mask few small = number_below (tops n mask) (omega (arith, tops-le n mask)) (tops_digits n mask small)
 
 -- a suit of fewer than five cards has no flush
-pub suit_none : (flush : FlushPlace) (low : LowStraight) (T : ℕ → ℕ) (mask : ℕ) → OfRanks high_ace T → Shows mask 1 T → length (tops 5 mask) < 5 → IsBestOfSuit flush low T 0
+pub suit_none : (flush : FlushRank) (low : LowStraight) (T : ℕ → ℕ) (mask : ℕ) → OfRanks high_ace T → Shows mask 1 T → length (tops 5 mask) < 5 → IsBestOfSuit flush low T 0
 suit_none flush low T mask of shows few = record {
   flushes = λ hs fits digits. absurd (none hs fits);
   straights = λ top has. let found = has_list low T top has in absurd (none found.hs found.fits);
@@ -126,7 +126,7 @@ pub topped_none : (class top : ℕ) → top ≡ 0 → topped class top ≡ 0
 topped_none class top none = ap (λ (b : Bool). cond b 0 (class_above class (top ∷ []))) (eq-eqb top 0 none)
 
 -- the best of a suit of five cards or more
-pub suit_best : (flush : FlushPlace) (low : LowStraight) (T : ℕ → ℕ) (mask found most : ℕ) → OfRanks high_ace T → Shows mask 1 T → 5 ≤ length (tops 5 mask) → ((top : ℕ) → HasStraight low T top → top ≤ found) → ((found ≡ 0) ⊎ HasStraight low T found) → most ≡ max (class_above (flush_class flush) (tops 5 mask)) (topped 8 found) → IsBestOfSuit flush low T most
+pub suit_best : (flush : FlushRank) (low : LowStraight) (T : ℕ → ℕ) (mask found most : ℕ) → OfRanks high_ace T → Shows mask 1 T → 5 ≤ length (tops 5 mask) → ((top : ℕ) → HasStraight low T top → top ≤ found) → ((found ≡ 0) ⊎ HasStraight low T found) → most ≡ max (class_above (flush_class flush) (tops 5 mask)) (topped 8 found) → IsBestOfSuit flush low T most
 suit_best flush low T mask found most of shows many above has is =
     let picked : IsPicked T (pattern 0) (tops 5 mask) = tops_picked high_ace IsHeight-high_ace T 5 mask of shows (omega (arith, tops_few T 5 mask of shows)) in
     let digits = picked_digits T (pattern 0) (tops 5 mask) of ones_alone.some picked in

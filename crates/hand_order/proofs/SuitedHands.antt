@@ -5,7 +5,7 @@ use Rattle.card_set.specs.Deck.{suits_before}
 use Rattle.card_set.specs.Different.{Every, AllDifferent}
 use Rattle.card_set.specs.Ranks.{times, ranks_of, ranks_occurring, high_ace, is_one_suit}
 use Rattle.card_set.proofs.Counted.{IsHeight-high_ace}
-use Rattle.hand_order.specs.declared.ladder.FlushPlace.TheVariants as flushes
+use Rattle.hand_order.specs.declared.ladder.FlushRank.TheVariants as flushes
 use Rattle.hand_order.specs.Choices.{choices, IsAmong, AreHeld}
 use Rattle.hand_order.specs.Digits.{with_digits}
 use Rattle.hand_order.proofs.Digits.{AreDigits}

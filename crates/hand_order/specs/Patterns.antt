@@ -1,7 +1,7 @@
 -- How heights fit given counts, and the patterns of hands without straights and flushes.
 use Rattle.std.specs.Prelude.{◌≡◌, ℕ, ◌+◌, ◌-◌, ◌<◌, ◌≤◌, ◌==◌, false, List, [], ◌∷◌, cond, sum_by}
 use Rattle.card_set.specs.declared.card.Rank.{Rank}
-use Rattle.card_set.specs.Classes.{place}
+use Rattle.card_set.specs.Classes.{classes_above}
 use Rattle.card_set.specs.Ranks.{falling_heights, high_ace}
 use Rattle.hand_order.specs.Tables.{high_table}
 use Rattle.hand_order.specs.Digits.{AreDigits, with_digits}
@@ -54,7 +54,7 @@ among_numbers n (m ∷ ms) = cond (m == n) 1 0 + among_numbers n ms
 
 -- the class of a hand by how often its ranks occur, without straights and flushes
 abbrev pub plain_class : ℕ → ℕ → ℕ → ℕ
-plain_class four three two = 8 - place (high_table four three two false false)
+plain_class four three two = 8 - classes_above (high_table four three two false false)
 
 -- how often the ranks occur in each class
 abbrev pub pattern : ℕ → List ℕ

@@ -2,7 +2,7 @@
 use Rattle.std.specs.Prelude.{◌==◌, ◌&&◌, ◌||◌, ℕ, ◌+◌, ◌-◌, Bool, false, List, [], ◌∷◌, if◌then◌else◌}
 use Rattle.card_set.specs.declared.card.Card.{Card}
 use Rattle.card_set.specs.Ranks.{high_ace, ranks_of, is_one_suit}
-use Rattle.card_set.specs.Classes.{has_four_of_a_kind, has_full_house, has_three_of_a_kind, has_two_pair, has_one_pair, has_no_pair, place, IsBelow}
+use Rattle.card_set.specs.Classes.{has_four_of_a_kind, has_full_house, has_three_of_a_kind, has_two_pair, has_one_pair, has_no_pair, classes_above, IsBelow}
 use Rattle.hand_order.specs.Digits.{class_above}
 use Rattle.hand_order.specs.declared.straights.LowStraight.{LowStraight}
 use Rattle.hand_order.specs.declared.straights.LowStraight.TheVariants as straights
@@ -44,7 +44,7 @@ deciding_ranks low cards =
 -- straight, three of a kind, two pair, pair, high card
 unfoldable pub high_class : LowStraight → List Card → ℕ
 high_class low cards =
-    place (
+    classes_above (
     (is_straight low cards && is_one_suit cards)
     ∷ has_four_of_a_kind high_ace cards
     ∷ has_full_house high_ace cards

@@ -4,11 +4,11 @@ use Rattle.hand_order.specs.Digits.{class_above, AreDigits}
 use Rattle.hand_order.specs.Ladder.{flush_class}
 use Rattle.hand_order.specs.Patterns.{Fits, pattern}
 use Rattle.hand_order.specs.StraightRanks.{HasStraight}
-use Rattle.hand_order.specs.declared.ladder.FlushPlace.{FlushPlace}
+use Rattle.hand_order.specs.declared.ladder.FlushRank.{FlushRank}
 use Rattle.hand_order.specs.declared.straights.LowStraight.{LowStraight}
 
 -- a flush of the suit has at least this many points
-pub record IsFlushOf (flush : FlushPlace) (T : ℕ → ℕ) (least : ℕ) : Type 0 where
+pub record IsFlushOf (flush : FlushRank) (T : ℕ → ℕ) (least : ℕ) : Type 0 where
   pub hs : List ℕ
   pub fits : Fits T (pattern 0) hs
   pub digits : AreDigits hs
@@ -22,7 +22,7 @@ pub record IsStraightOf (low : LowStraight) (T : ℕ → ℕ) (least : ℕ) : Ty
 
 -- no flush and no straight flush of the suit has more points, and one has exactly these; or there
 -- is none
-pub record IsBestOfSuit (flush : FlushPlace) (low : LowStraight) (T : ℕ → ℕ) (most : ℕ) : Type 0
+pub record IsBestOfSuit (flush : FlushRank) (low : LowStraight) (T : ℕ → ℕ) (most : ℕ) : Type 0
   where
     pub flushes : (hs : List ℕ) → Fits T (pattern 0) hs → AreDigits hs
         → class_above (flush_class flush) hs ≤ most

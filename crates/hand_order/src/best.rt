@@ -37,11 +37,11 @@ fn greatest_score<O: HandOrder>(hole: &CardRow, board: &CardRow, pick: Pick) -> 
     match pick {
         Pick::AnyFive => O::best_set(&CardSet::of(&joined(hole, board))),
         Pick::TwoAndThree => {
-            let judge = WithBoard::<O> {
+            let scorer = WithBoard::<O> {
                 board: *board,
                 order: PhantomData,
             };
-            best_choice(&judge, hole, 0, CardRow::new(), 2)
+            best_choice(&scorer, hole, 0, CardRow::new(), 2)
         }
         Pick::AllHeld => O::best_set(&CardSet::of(hole)),
     }
@@ -60,35 +60,35 @@ fn joined(first: &CardRow, second: &CardRow) -> CardRow
 }
 
 /// Gives a choice of cards its points.
-pub trait Judge {
-    /// Which choices it can judge.
+pub trait Scorer {
+    /// Which choices it can score.
     ghost accepts: { Self → List Card → Type 0 };
 
     /// The points of a choice, if it has any.
     ghost points: { Self → List Card → Option ℕ };
 
     /// The score of the chosen cards.
-    fn judge(&self, chosen: &CardRow) -> Option<Score>
+    fn score(&self, chosen: &CardRow) -> Option<Score>
         requires { accepts self.now (cards_of chosen.now) }
         ensures { option_map (λ s. s.points) result ≡ points self.now (cards_of chosen.now) };
 }
 
-/// The best choice of `held` of a set's cards, each judged by itself. The judge must not depend on
+/// The best choice of `held` of a set's cards, each scored by itself. The scorer must not depend on
 /// the order of the cards.
-pub fn best_listed<J: Judge>(judge: &J, cards: &CardSet, held: u8) -> Option<Score>
+pub fn best_listed<J: Scorer>(scorer: &J, cards: &CardSet, held: u8) -> Option<Score>
     requires room { held ≤ 7 }
     requires few { count_of cards.now ≤ 7 }
-    requires accepted { (hand : List Card) → AreHeld held hand → J.accepts judge.now hand }
-    requires alike { AreAlike (J.points judge.now) held }
+    requires accepted { (hand : List Card) → AreHeld held hand → J.accepts scorer.now hand }
+    requires alike { AreAlike (J.points scorer.now) held }
     ensures { (listing : List Card) → IsListing cards.now listing
-        → option_map (λ s. s.points) result ≡ greatest (J.points judge.now) (choices held listing) }
+        → option_map (λ s. s.points) result ≡ greatest (J.points scorer.now) (choices held listing) }
 {
-    best_choice(judge, &cards.to_row(), 0, CardRow::new(), held)
+    best_choice(scorer, &cards.to_row(), 0, CardRow::new(), held)
 }
 
 /// The best choice of `chosen` and `need` of the cards from place `from` on.
-pub fn best_choice<J: Judge>(
-    judge: &J,
+pub fn best_choice<J: Scorer>(
+    scorer: &J,
     cards: &CardRow,
     from: u8,
     chosen: CardRow,
@@ -97,13 +97,13 @@ pub fn best_choice<J: Judge>(
     requires room { chosen.len + need ≤ 7 }
     requires accepted { (more : List Card)
         → IsAmong more (choices need (drop from (cards_of cards.now)))
-        → J.accepts judge.now (cards_of chosen ++ more) }
+        → J.accepts scorer.now (cards_of chosen ++ more) }
     ensures { option_map (λ s. s.points) result
-        ≡ greatest (λ more. J.points judge.now (cards_of chosen ++ more))
+        ≡ greatest (λ more. J.points scorer.now (cards_of chosen ++ more))
         (choices need (drop from (cards_of cards.now))) }
 {
     if need == 0 {
-        return judge.judge(&chosen);
+        return scorer.score(&chosen);
     }
     if from >= cards.len {
         return None;
@@ -111,8 +111,8 @@ pub fn best_choice<J: Judge>(
     let mut with = chosen;
     with.push(cards.cards[from as usize]);
     better_score(
-        best_choice(judge, cards, from + 1, with, need - 1),
-        best_choice(judge, cards, from + 1, chosen, need),
+        best_choice(scorer, cards, from + 1, with, need - 1),
+        best_choice(scorer, cards, from + 1, chosen, need),
     )
 }
 
@@ -130,20 +130,20 @@ pub fn better_score(first: Option<Score>, second: Option<Score>) -> Option<Score
     }
 }
 
-// Judges hole cards by the best hand that they make with three cards of the board.
+// Scores hole cards by the best hand that they make with three cards of the board.
 #[derive(Drop)]
 struct WithBoard<O: HandOrder> {
     board: CardRow,
     order: PhantomData<O>,
 }
 
-impl<O: HandOrder> Judge for WithBoard<O> {
-    ghost accepts = { λ judge cards. CanJoin O.HELD cards (cards_of judge.board) };
+impl<O: HandOrder> Scorer for WithBoard<O> {
+    ghost accepts = { λ scorer cards. CanJoin O.HELD cards (cards_of scorer.board) };
 
-    ghost points = { λ judge cards.
-        greatest (λ more. O.points (cards ++ more)) (choices 3 (cards_of judge.board)) };
+    ghost points = { λ scorer cards.
+        greatest (λ more. O.points (cards ++ more)) (choices 3 (cards_of scorer.board)) };
 
-    fn judge(&self, chosen: &CardRow) -> Option<Score> {
+    fn score(&self, chosen: &CardRow) -> Option<Score> {
         best_with::<O>(CardSet::of(chosen), &self.board, 0, 3)
     }
 }

@@ -13,7 +13,7 @@ ghost use Rattle.hand_order.specs.StraightRanks.{topped};
 ghost use Rattle.hand_order.specs.SuitBest.{IsBestOfSuit};
 ghost use Rattle.hand_order.specs.Tops.{Shows};
 
-use crate::ladder::{FlushPlace, flush_class, flush_ranked};
+use crate::ladder::{FlushRank, flush_class, flush_ranked};
 use crate::levels::levels_of;
 use crate::mask::with_top_digits;
 use crate::pattern::best_pattern;
@@ -23,7 +23,7 @@ use card_set::{CardRow, CardSet, Suit};
 
 /// The points of five cards in the high order; `low` is the straight that an ace begins, if any,
 /// and `flush` whether a flush beats a full house.
-pub fn hand_points(cards: &CardRow, low: LowStraight, flush: FlushPlace) -> u32
+pub fn hand_points(cards: &CardRow, low: LowStraight, flush: FlushRank) -> u32
     requires { AreHeld 5 (cards_of cards.now) }
     ensures { result ≡ ladder_points flush low (cards_of cards.now) }
 {
@@ -33,7 +33,7 @@ pub fn hand_points(cards: &CardRow, low: LowStraight, flush: FlushPlace) -> u32
 /// The points of the best five cards of a set in the high order; `low` is the straight that an ace
 /// begins, if any, and `flush` whether a flush beats a full house. Better hands have more points.
 /// The choices of five are not listed: four masks of ranks are enough to find the best one.
-pub fn best_high(cards: &CardSet, low: LowStraight, flush: FlushPlace) -> u32
+pub fn best_high(cards: &CardSet, low: LowStraight, flush: FlushRank) -> u32
     requires { 5 ≤ count_of cards.now }
     ensures { (listing : List Card) → IsListing cards.now listing
         → greatest (λ choice. Some (ladder_points flush low choice)) (choices 5 listing)
@@ -57,7 +57,7 @@ pub fn best_high(cards: &CardSet, low: LowStraight, flush: FlushPlace) -> u32
 
 // The points of the best flush or straight flush among the ranks of one suit, or 0 if there is
 // none.
-fn suit_points(mask: u16, low: LowStraight, flush: FlushPlace) -> u32
+fn suit_points(mask: u16, low: LowStraight, flush: FlushRank) -> u32
     requires { mask < 2 ^ 13 }
     ensures { (T : ℕ → ℕ) → OfRanks high_ace T → Shows mask 1 T → IsBestOfSuit flush low T result }
 {

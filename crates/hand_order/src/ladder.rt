@@ -5,7 +5,7 @@ ghost use Rattle.hand_order.specs.Ladder.{flush_class, flush_ranked};
 
 /// How a flush ranks beside a full house.
 #[derive(Clone, Copy, Debug, PartialEq, Eq)]
-pub enum FlushPlace {
+pub enum FlushRank {
     /// Below it, as with the whole deck.
     BelowFullHouse,
     /// Above it, as with the deck of 36.
@@ -13,21 +13,21 @@ pub enum FlushPlace {
 }
 
 /// The class of a flush, 5 or 6.
-pub fn flush_class(place: FlushPlace) -> u32
+pub fn flush_class(place: FlushRank) -> u32
     ensures { result ≡ flush_class place }
 {
     match place {
-        FlushPlace::BelowFullHouse => 5,
-        FlushPlace::AboveFullHouse => 6,
+        FlushRank::BelowFullHouse => 5,
+        FlushRank::AboveFullHouse => 6,
     }
 }
 
 /// The class in this order of a hand whose class was found as if a full house were class 6.
-pub fn flush_ranked(place: FlushPlace, class: u32) -> u32
+pub fn flush_ranked(place: FlushRank, class: u32) -> u32
     ensures { result ≡ flush_ranked place class }
 {
     match place {
-        FlushPlace::BelowFullHouse => class,
-        FlushPlace::AboveFullHouse => if class == 6 { 5 } else { class },
+        FlushRank::BelowFullHouse => class,
+        FlushRank::AboveFullHouse => if class == 6 { 5 } else { class },
     }
 }

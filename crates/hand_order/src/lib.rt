@@ -14,10 +14,10 @@ mod ranks;
 mod row;
 mod straights;
 
-pub use best::{Judge, best_choice, best_listed, best_of, better_score};
+pub use best::{Scorer, best_choice, best_listed, best_of, better_score};
 pub use card_set::Pick;
 pub use high::{best_high, hand_points};
-pub use ladder::FlushPlace;
+pub use ladder::FlushRank;
 pub use lowest::lowest_ranks;
 pub use mask::{clear, top};
 pub use order::{HandOrder, Score};

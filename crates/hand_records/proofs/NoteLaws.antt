@@ -12,7 +12,7 @@ use Rattle.hand_records.specs.declared.notes.TextNotes.{TextNotes}
 use Rattle.card_set.proofs.Bytes.{different_bytes}
 use Rattle.card_set.proofs.NumbersOfRange.{map_agree}
 use Rattle.card_set.proofs.Tests.{neither}
-use Rattle.hand_records.specs.SaidNotes.{SaidNotes, kept_label, name_said, numbers_said}
+use Rattle.hand_records.specs.SaidNotes.{SaidNotes, hand_name_noted, name_said, numbers_said}
 
 -- ---- notes of their parts
 
@@ -159,16 +159,16 @@ unusual_said count (Some numbers) unusual =
 
 -- ---- the name of the hand
 
-pub label_twice : (place : ℕ) (said : Option (List ℕ)) → kept_label place (kept_label place said) ≡ kept_label place said
+pub label_twice : (place : ℕ) (said : Option (List ℕ)) → hand_name_noted place (hand_name_noted place said) ≡ hand_name_noted place said
 label_twice place None = refl
 label_twice place (Some text) = by_test (bytes_eq text (decimal place)) refl
   where
-    by_test : (same : Bool) → bytes_eq text (decimal place) ≡ same → kept_label place (cond same None (Some text)) ≡ cond same None (Some text)
+    by_test : (same : Bool) → bytes_eq text (decimal place) ≡ same → hand_name_noted place (cond same None (Some text)) ≡ cond same None (Some text)
     by_test true is = refl
     by_test false is = ap (λ (b : Bool). cond b None (Some text)) is
 
 -- a name, or else the place
-pub label_or_place : (place : ℕ) (said : Option (List ℕ)) → unwrap_or said (decimal place) ≡ unwrap_or (kept_label place said) (decimal place)
+pub label_or_place : (place : ℕ) (said : Option (List ℕ)) → unwrap_or said (decimal place) ≡ unwrap_or (hand_name_noted place said) (decimal place)
 label_or_place place None = refl
 label_or_place place (Some text) = by_test (bytes_eq text (decimal place)) refl
   where

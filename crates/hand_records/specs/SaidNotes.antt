@@ -33,9 +33,9 @@ numbers_said count numbers = option_and_then (λ said. non_default_seats count (
     numbers
 
 -- the name of a hand at a place of its file, from 0; a name that is that place counts as missing
-abbrev pub kept_label : ℕ → Option (List ℕ) → Option (List ℕ)
-kept_label place None = None
-kept_label place (Some text) = if bytes_eq text (decimal place) then None else Some text
+abbrev pub hand_name_noted : ℕ → Option (List ℕ) → Option (List ℕ)
+hand_name_noted place None = None
+hand_name_noted place (Some text) = if bytes_eq text (decimal place) then None else Some text
 
 -- the notes of this number of seats, at a place of the file, from 0: a note that equals its default
 -- counts as missing
@@ -45,7 +45,7 @@ said_notes place count notes =
       names = map (name_said notes.names) (seats_of count);
       seats = numbers_said count notes.seats;
       seat_count = notes.seat_count;
-      hand = kept_label place notes.hand;
+      hand = hand_name_noted place notes.hand;
       texts = texts_of notes;
       year = notes.year;
       month = notes.month;

@@ -2,7 +2,7 @@
 use Rattle.std.specs.Prelude.{ℕ, ◌+◌, ◌*◌, ◌≤◌, ℤ, pos, ◌+ℤ◌, ◌-ℤ◌, ◌≤ℤ◌, ◌==◌, ◌&&◌, ◌||◌, Bool, List, [], ◌∷◌, ◌++◌, map, filter, fold, flat_map, sum_by, bytes_eq, if◌then◌else◌}
 use Rattle.std.specs.List.{list_any}
 use Rattle.chip_ledger.specs.declared.seat_row.TheConstants.{MOST_AMOUNT}
-use Rattle.hand_session.specs.declared.session_rows.SessionRow.{SessionRow}
+use Rattle.hand_session.specs.declared.player_sessions.PlayerSession.{PlayerSession}
 use Rattle.hand_session.specs.declared.steps.Step.{Step}
 use Rattle.hand_session.specs.declared.steps.StepKind.TheVariants as kinds
 use Rattle.hand_session.specs.declared.visits.Visit.{Visit}
@@ -38,8 +38,8 @@ with_seat visit seat =
     }
 
 -- the row of a name that has not been seen yet
-abbrev pub new_row : List ℕ → SessionRow
-new_row name =
+abbrev pub new_session : List ℕ → PlayerSession
+new_session name =
     record {
       name = name;
       first = 0;
@@ -58,11 +58,11 @@ abbrev pub counted : ℕ → Bool → ℕ
 counted count test = if test then count + 1 else count
 
 -- the gap of a name at a visit
-abbrev pub gap_at : SessionRow → Visit → ℤ
+abbrev pub gap_at : PlayerSession → Visit → ℤ
 gap_at row visit = if row.hands == 0 then pos 0 else pos visit.started -ℤ pos row.last
 
 -- a row with one more visit
-abbrev pub with_visit : SessionRow → Visit → SessionRow
+abbrev pub with_visit : PlayerSession → Visit → PlayerSession
 with_visit row visit =
     record {
       name = row.name;
@@ -78,53 +78,53 @@ with_visit row visit =
     }
 
 -- the step of a visit in the hand with this number
-abbrev pub visit_steps : ℕ → SessionRow → Visit → List Step
+abbrev pub visit_steps : ℕ → PlayerSession → Visit → List Step
 visit_steps number row visit =
     if row.hands == 0
     then record { hand = number; name = row.name; kind = kinds.Join visit.started } ∷ []
     else gap_step number row.name (pos visit.started -ℤ pos row.last)
 
 -- the names of rows
-abbrev pub row_names : List SessionRow → List (List ℕ)
-row_names rows = map (λ row. row.name) rows
+abbrev pub session_names : List PlayerSession → List (List ℕ)
+session_names rows = map (λ row. row.name) rows
 
 -- the row of a name among rows, or a new one
-abbrev pub row_at : List SessionRow → List ℕ → SessionRow
-row_at [] name = new_row name
-row_at (row ∷ rows) name = if bytes_eq name row.name then row else row_at rows name
+abbrev pub session_at : List PlayerSession → List ℕ → PlayerSession
+session_at [] name = new_session name
+session_at (row ∷ rows) name = if bytes_eq name row.name then row else session_at rows name
 
 -- rows with one more visit of a name
-abbrev pub with_row : List SessionRow → List ℕ → Visit → List SessionRow
-with_row [] name visit = with_visit (new_row name) visit ∷ []
-with_row (row ∷ rows) name visit =
-    if bytes_eq name row.name then with_visit row visit ∷ rows else row ∷ with_row rows name visit
+abbrev pub visit_seat : List PlayerSession → List ℕ → Visit → List PlayerSession
+visit_seat [] name visit = with_visit (new_session name) visit ∷ []
+visit_seat (row ∷ rows) name visit =
+    if bytes_eq name row.name then with_visit row visit ∷ rows else row ∷ visit_seat rows name visit
 
 -- rows with a row for a name, a new one at the end if there is none
-abbrev pub rows_with : List SessionRow → List ℕ → List SessionRow
-rows_with rows name =
-    if list_any (bytes_eq name) (row_names rows) then rows else rows ++ new_row name ∷ []
+abbrev pub sessions_with : List PlayerSession → List ℕ → List PlayerSession
+sessions_with rows name =
+    if list_any (bytes_eq name) (session_names rows) then rows else rows ++ new_session name ∷ []
 
 -- rows with the visit of a name in a hand, unless one of these earlier seats has the name
-abbrev pub rows_after_seat : Hand → List Seated → List SessionRow → List ℕ → List SessionRow
-rows_after_seat hand before rows name =
-    if list_any (is_named name) before then rows else with_row rows name (visit_in name hand)
+abbrev pub after_seat : Hand → List Seated → List PlayerSession → List ℕ → List PlayerSession
+after_seat hand before rows name =
+    if list_any (is_named name) before then rows else visit_seat rows name (visit_in name hand)
 
 -- the steps of a name in the hand with this number, unless one of these earlier seats has the name
-abbrev pub steps_of_seat : ℕ → Hand → List Seated → List SessionRow → List ℕ → List Step
+abbrev pub steps_of_seat : ℕ → Hand → List Seated → List PlayerSession → List ℕ → List Step
 steps_of_seat number hand before rows name =
     if list_any (is_named name) before
     then []
-    else visit_steps number (row_at rows name) (visit_in name hand)
+    else visit_steps number (session_at rows name) (visit_in name hand)
 
 -- rows with the visits of these names in a hand
-abbrev pub with_names : Hand → List SessionRow → List (List ℕ) → List SessionRow
+abbrev pub with_names : Hand → List PlayerSession → List (List ℕ) → List PlayerSession
 with_names hand rows names =
-    fold (λ so_far name. with_row so_far name (visit_in name hand)) rows names
+    fold (λ so_far name. visit_seat so_far name (visit_in name hand)) rows names
 
 -- the steps of these names in the hand with this number
-abbrev pub steps_of_names : ℕ → Hand → List SessionRow → List (List ℕ) → List Step
+abbrev pub steps_of_names : ℕ → Hand → List PlayerSession → List (List ℕ) → List Step
 steps_of_names number hand rows names =
-    flat_map (λ name. visit_steps number (row_at rows name) (visit_in name hand)) names
+    flat_map (λ name. visit_steps number (session_at rows name) (visit_in name hand)) names
 
 -- the most chips that all seats of a hand can have together
 abbrev pub MOST_OF_HAND : ℕ
@@ -141,7 +141,7 @@ pub record IsOfHand (visit : Visit) : Type 0 where
   pub finished : visit.finished ≤ MOST_OF_HAND
 
 -- a row is of at most this number of hands
-pub record IsOfHands (count : ℕ) (row : SessionRow) : Type 0 where
+pub record IsOfHands (count : ℕ) (row : PlayerSession) : Type 0 where
   pub gaps : IsWithin (count * MOST_OF_HAND) row.gaps
   pub net : IsWithin (count * MOST_OF_HAND) row.net
   pub last : row.last ≤ MOST_OF_HAND

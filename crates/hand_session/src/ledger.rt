@@ -6,10 +6,10 @@ ghost use Rattle.report_layout.specs.Indexed.{AreIndexed};
 ghost use Rattle.hand_session.specs.Hands.{hand_of, seated_in};
 ghost use Rattle.hand_session.specs.Ledgers.{HasGrown, TakesHand};
 ghost use Rattle.hand_session.specs.Sessions.{is_named, names_among};
-ghost use Rattle.hand_session.specs.Visits.{IsOfHand, IsOfHands, row_at, row_names, rows_after_seat, rows_with, steps_of_names, steps_of_seat, visit_steps, with_names, with_row};
+ghost use Rattle.hand_session.specs.Visits.{IsOfHand, IsOfHands, after_seat, session_at, session_names, sessions_with, steps_of_names, steps_of_seat, visit_seat, visit_steps, with_names};
 
-use crate::rows::{add_visit, new_row, push_steps};
-use crate::session_rows::SessionRow;
+use crate::rows::{add_visit, new_session, push_steps};
+use crate::player_sessions::PlayerSession;
 use crate::steps::Step;
 use crate::visits::{Visit, visit_of};
 use card_set::{Memory, TryPush};
@@ -23,7 +23,7 @@ use std::alloc::Global;
 #[derive(Drop)]
 pub struct Ledger {
     pub names: NameIndex,
-    pub rows: Vec<SessionRow>,
+    pub rows: Vec<PlayerSession>,
     pub steps: Vec<Step>,
 }
 
@@ -45,7 +45,7 @@ pub fn new_ledger(alloc: Global) -> Ledger
 pub fn add_hand(alloc: Global, ledger: &mut Ledger, number: u32, play: &Play) -> Result<(), Memory>
     requires hand { TakesHand ledger.old number }
     requires within { (name : List ℕ)
-        → IsOfHands (number - 1) (row_at ledger.old.rows.items name) }
+        → IsOfHands (number - 1) (session_at ledger.old.rows.items name) }
     ensures { OnOk result (HasGrown ledger.old ledger.new
         (with_names (hand_of play.now) ledger.old.rows.items
         (names_among (hand_of play.now).seats))
@@ -70,9 +70,9 @@ fn add_seat(
     requires within { list_any (is_named (seated_in play.now seat.number).name)
         (map (seated_in play.now) (seats_of (seat.number - 1))) ≡ false
         → IsOfHands (number - 1)
-        (row_at ledger.old.rows.items (seated_in play.now seat.number).name) }
+        (session_at ledger.old.rows.items (seated_in play.now seat.number).name) }
     ensures { OnOk result (HasGrown ledger.old ledger.new
-        (rows_after_seat (hand_of play.now)
+        (after_seat (hand_of play.now)
         (map (seated_in play.now) (seats_of (seat.number - 1)))
         ledger.old.rows.items (seated_in play.now seat.number).name)
         (steps_of_seat number (hand_of play.now)
@@ -108,33 +108,33 @@ fn add_visit_of(
     visit: Visit,
 ) -> Result<(), Memory>
     requires hand { TakesHand ledger.old number }
-    requires within { IsOfHands (number - 1) (row_at ledger.old.rows.items name.now) }
+    requires within { IsOfHands (number - 1) (session_at ledger.old.rows.items name.now) }
     requires visit { IsOfHand visit }
     ensures { OnOk result (HasGrown ledger.old ledger.new
-        (with_row ledger.old.rows.items name.now visit)
-        (visit_steps number (row_at ledger.old.rows.items name.now) visit)) }
+        (visit_seat ledger.old.rows.items name.now visit)
+        (visit_steps number (session_at ledger.old.rows.items name.now) visit)) }
 {
-    let place = row_place(alloc, ledger, name)?;
+    let place = session_index(alloc, ledger, name)?;
     push_steps(alloc, &mut ledger.steps, number, &ledger.rows[place], visit)?;
     add_visit(&mut ledger.rows[place], visit);
     Ok(())
 }
 
 // The place of the row of a name; the row is made if the name is new.
-fn row_place(alloc: Global, ledger: &mut Ledger, name: &str) -> Result<usize, Memory>
-    requires names { AreIndexed ledger.old.names (row_names ledger.old.rows.items) }
+fn session_index(alloc: Global, ledger: &mut Ledger, name: &str) -> Result<usize, Memory>
+    requires names { AreIndexed ledger.old.names (session_names ledger.old.rows.items) }
     ensures names { OnOk result (AreIndexed ledger.new.names
-        (row_names ledger.new.rows.items)) }
+        (session_names ledger.new.rows.items)) }
     ensures rows { OnOk result (ledger.new.rows.items
-        ≡ rows_with ledger.old.rows.items name.now) }
+        ≡ sessions_with ledger.old.rows.items name.now) }
     ensures steps { OnOk result (ledger.new.steps ≡ ledger.old.steps) }
     ensures place { IfOk result (λ place.
-        position_from (bytes_eq name.now) 0 (row_names ledger.new.rows.items) ≡ Some place) }
+        position_from (bytes_eq name.now) 0 (session_names ledger.new.rows.items) ≡ Some place) }
 {
     let rows = ledger.rows.len();
     let place = ledger.names.place_of(alloc, name, rows)?;
     if place == rows {
-        ledger.rows.try_push(new_row(alloc, name)?)?;
+        ledger.rows.try_push(new_session(alloc, name)?)?;
     }
     Ok(place)
 }

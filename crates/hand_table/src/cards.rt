@@ -44,7 +44,7 @@ pub fn answer_to(alloc: Global, row: &str) -> Result<Option<String>, AllocError>
 
 // What the row says besides the cards: who is live, what is due, and whether the hand is settled.
 #[derive(Clone, Copy)]
-struct Told {
+struct GivenState {
     live: LiveRow,
     due: Due,
     settled: bool,
@@ -56,7 +56,7 @@ fn played<V: Variant>(alloc: Global, seats: u8, events: &str) -> Result<String, 
         return String::from_str(alloc, "no such seats");
     }
     let mut cards = Cards::<V>::start(seats);
-    let mut told = Told {
+    let mut given = GivenState {
         live: all_live(seats),
         due: Due::Deal(1),
         settled: false,
@@ -66,7 +66,7 @@ fn played<V: Variant>(alloc: Global, seats: u8, events: &str) -> Result<String, 
         if !text.is_empty() {
             text.push_str("; ")?;
         }
-        let answer = answered(alloc, &mut cards, &mut told, event)?;
+        let answer = answered(alloc, &mut cards, &mut given, event)?;
         text.push_str(answer.as_str())?;
     }
     Ok(text)
@@ -87,7 +87,7 @@ fn all_live(seats: u8) -> LiveRow
 fn answered<V: Variant>(
     alloc: Global,
     cards: &mut Cards<V>,
-    told: &mut Told,
+    given: &mut GivenState,
     event: &str,
 ) -> Result<String, AllocError> {
     let (word, rest) = first_and_rest(event);
@@ -96,22 +96,22 @@ fn answered<V: Variant>(
             let Some(due) = due_of(rest) else {
                 return String::from_str(alloc, "no such due");
             };
-            told.due = due;
+            given.due = due;
             String::from_str(alloc, "due")
         }
         b"settled" => {
-            told.settled = true;
+            given.settled = true;
             String::from_str(alloc, "settled")
         }
-        b"fold" => folded(alloc, cards, told, rest),
-        b"done" => done(alloc, cards, told),
+        b"fold" => folded(alloc, cards, given, rest),
+        b"done" => done(alloc, cards, given),
         b"up" => up(alloc, cards),
         b"hands" => hands(alloc, cards),
         b"table" => cards_text(alloc, &cards.board()),
         b"mucked" => seats_text(alloc, &cards.mucked()),
         b"unknown" => seats_text(alloc, &cards.unknown()),
         b"places" => places(alloc, cards),
-        _ => told_event(alloc, cards, told, word, rest),
+        _ => event_answer(alloc, cards, given, word, rest),
     }
 }
 
@@ -131,12 +131,12 @@ fn due_of(text: &str) -> Option<Due> {
 fn folded<V: Variant>(
     alloc: Global,
     cards: &mut Cards<V>,
-    told: &mut Told,
+    given: &mut GivenState,
     seat: &str,
 ) -> Result<String, AllocError> {
     match seat_of(seat) {
-        Some(seat) if seat.number <= told.live.seats => {
-            told.live.set(seat, false);
+        Some(seat) if seat.number <= given.live.seats => {
+            given.live.set(seat, false);
             cards.folded(seat);
             String::from_str(alloc, "ok")
         }
@@ -144,11 +144,11 @@ fn folded<V: Variant>(
     }
 }
 
-fn done<V: Variant>(alloc: Global, cards: &Cards<V>, told: &Told) -> Result<String, AllocError> {
-    if told.live.seats != cards.seats() || !is_within::<V>(told.due) {
+fn done<V: Variant>(alloc: Global, cards: &Cards<V>, given: &GivenState) -> Result<String, AllocError> {
+    if given.live.seats != cards.seats() || !is_within::<V>(given.due) {
         return String::from_str(alloc, "no such street");
     }
-    let done = cards.done(told.due, &told.live);
+    let done = cards.done(given.due, &given.live);
     format!(in alloc; "{done}")
 }
 
@@ -224,10 +224,10 @@ fn push_slots(text: &mut String, slots: &[Slot]) -> Result<(), AllocError> {
 }
 
 // An event of cards.
-fn told_event<V: Variant>(
+fn event_answer<V: Variant>(
     alloc: Global,
     cards: &mut Cards<V>,
-    told: &Told,
+    given: &GivenState,
     word: &str,
     rest: &str,
 ) -> Result<String, AllocError> {
@@ -236,20 +236,20 @@ fn told_event<V: Variant>(
             let Some((seat, slots)) = seat_and_slots(rest) else {
                 return no_event(alloc);
             };
-            dealt(alloc, cards, told, Kind::Hole { seat, cards: slots })
+            dealt(alloc, cards, given, Kind::Hole { seat, cards: slots })
         }
         b"board" => {
             let Ok(slots) = read_slots(rest.as_bytes()) else {
                 return no_event(alloc);
             };
             let cards_dealt = known(&slots);
-            dealt(alloc, cards, told, Kind::Board { cards: cards_dealt })
+            dealt(alloc, cards, given, Kind::Board { cards: cards_dealt })
         }
         b"discard" => {
             let Some((seat, slots)) = seat_and_slots(rest) else {
                 return no_event(alloc);
             };
-            discarded(alloc, cards, told, Kind::Discard { seat, cards: slots })
+            discarded(alloc, cards, given, Kind::Discard { seat, cards: slots })
         }
         b"show" => {
             let Some((seat, slots)) = seat_and_slots(rest) else {
@@ -259,7 +259,7 @@ fn told_event<V: Variant>(
             shown(
                 alloc,
                 cards,
-                told,
+                given,
                 Kind::Show {
                     seat,
                     cards: cards_shown,
@@ -270,7 +270,7 @@ fn told_event<V: Variant>(
             let Some(seat) = seat_of(rest) else {
                 return no_event(alloc);
             };
-            shown(alloc, cards, told, Kind::Muck { seat })
+            shown(alloc, cards, given, Kind::Muck { seat })
         }
         _ => no_event(alloc),
     }
@@ -284,17 +284,17 @@ fn seat_and_slots(text: &str) -> Option<(Seat, SlotRow)> {
 fn dealt<V: Variant>(
     alloc: Global,
     cards: &mut Cards<V>,
-    told: &Told,
+    given: &GivenState,
     kind: Kind,
 ) -> Result<String, AllocError>
     requires { is_deal (kind_said kind) ≡ true }
 {
-    if told.live.seats != cards.seats() || !is_within::<V>(told.due) {
+    if given.live.seats != cards.seats() || !is_within::<V>(given.due) {
         return String::from_str(alloc, "no such street");
     }
     outcome(
         alloc,
-        cards.deal(told.due, &told.live, &Event { at: 0, kind }),
+        cards.deal(given.due, &given.live, &Event { at: 0, kind }),
     )
 }
 
@@ -318,17 +318,17 @@ fn known(slots: &SlotRow) -> CardRow {
 fn discarded<V: Variant>(
     alloc: Global,
     cards: &mut Cards<V>,
-    told: &Told,
+    given: &GivenState,
     kind: Kind,
 ) -> Result<String, AllocError>
     requires { is_discard (kind_said kind) ≡ true }
 {
-    if told.live.seats != cards.seats() || !is_within::<V>(told.due) {
+    if given.live.seats != cards.seats() || !is_within::<V>(given.due) {
         return String::from_str(alloc, "no such street");
     }
     outcome(
         alloc,
-        cards.discard(told.due, &told.live, &Event { at: 0, kind }),
+        cards.discard(given.due, &given.live, &Event { at: 0, kind }),
     )
 }
 
@@ -346,17 +346,17 @@ fn is_within<V: Variant>(due: Due) -> bool
 fn shown<V: Variant>(
     alloc: Global,
     cards: &mut Cards<V>,
-    told: &Told,
+    given: &GivenState,
     kind: Kind,
 ) -> Result<String, AllocError>
     requires { is_showing (kind_said kind) ≡ true }
 {
-    if told.live.seats != cards.seats() {
+    if given.live.seats != cards.seats() {
         return String::from_str(alloc, "no such seats");
     }
     outcome(
         alloc,
-        cards.show(told.due, &told.live, told.settled, &Event { at: 0, kind }),
+        cards.show(given.due, &given.live, given.settled, &Event { at: 0, kind }),
     )
 }
 

@@ -1,7 +1,7 @@
 -- Each high order has the points of its classes.
 use Rattle.std.proofs.Common.{◌≡◌, ℕ, List, Some, refl, sym, ◌∙◌, ap}
 use Rattle.card_set.specs.declared.card.Card.{Card}
-use Rattle.hand_order.specs.declared.ladder.FlushPlace.TheVariants as flushes
+use Rattle.hand_order.specs.declared.ladder.FlushRank.TheVariants as flushes
 use Rattle.hand_order.specs.declared.straights.LowStraight.TheVariants as straights
 use Rattle.hand_order.specs.Choices.{choices}
 use Rattle.hand_order.specs.Ladder.{ladder_points}

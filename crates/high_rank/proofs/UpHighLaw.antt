@@ -1,7 +1,7 @@
 -- Numbers of the same number of up-cards compare as the up-cards do.
 use Rattle.std.proofs.Common.{◌≡◌, ℕ, ◌-◌, ◌<◌, List, [], ◌∷◌, length, ◌↔◌, refl, sym, ◌∙◌, ap, subst, arith}
 use Rattle.card_set.specs.declared.card.Card.{Card}
-use Rattle.card_set.specs.Classes.{place}
+use Rattle.card_set.specs.Classes.{classes_above}
 use Rattle.card_set.specs.Ranks.{high_ace, ranks_occurring, ranks_of}
 use Rattle.card_set.specs.UpCards.{AreUpCards, up_high_class, IsWeakerUpHigh}
 use Rattle.card_set.proofs.Counted.{IsHeight-high_ace}
@@ -35,11 +35,11 @@ pub up_ordered_at : (cards other : List Card) (value : ℕ) → AreUpCards cards
 up_ordered_at cards other value up up_other same is = subst (λ (n : ℕ). (up_high_points other < n) ↔ IsWeakerUpHigh other cards) (sym is) (up_ordered other cards up_other up same)
 
 -- a class and a list that are read from up-cards make their number
-pub up_number_is : (cards : List Card) (fours threes pairs class : ℕ) (list : List ℕ) → fours ≡ ranks_occurring high_ace cards 4 → threes ≡ ranks_occurring high_ace cards 3 → pairs ≡ ranks_occurring high_ace cards 2 → class ≡ 4 - place (up_high_table fours threes pairs) → list ≡ ranks_of high_ace cards → class_above class list ≡ up_high_points cards
+pub up_number_is : (cards : List Card) (fours threes pairs class : ℕ) (list : List ℕ) → fours ≡ ranks_occurring high_ace cards 4 → threes ≡ ranks_occurring high_ace cards 3 → pairs ≡ ranks_occurring high_ace cards 2 → class ≡ 4 - classes_above (up_high_table fours threes pairs) → list ≡ ranks_of high_ace cards → class_above class list ≡ up_high_points cards
 unfolding up_high_class
 up_number_is cards fours threes pairs class list is_fours is_threes is_pairs is_class is_list =
     ap (λ (l : List ℕ). class_above class l) is_list
     ∙ ap (λ (k : ℕ). class_above k (ranks_of high_ace cards)) (is_class
-    ∙ ap (λ (k : ℕ). 4 - place (up_high_table k threes pairs)) is_fours
-    ∙ ap (λ (k : ℕ). 4 - place (up_high_table (ranks_occurring high_ace cards 4) k pairs)) is_threes
-    ∙ ap (λ (k : ℕ). 4 - place (up_high_table (ranks_occurring high_ace cards 4) (ranks_occurring high_ace cards 3) k)) is_pairs)
+    ∙ ap (λ (k : ℕ). 4 - classes_above (up_high_table k threes pairs)) is_fours
+    ∙ ap (λ (k : ℕ). 4 - classes_above (up_high_table (ranks_occurring high_ace cards 4) k pairs)) is_threes
+    ∙ ap (λ (k : ℕ). 4 - classes_above (up_high_table (ranks_occurring high_ace cards 4) (ranks_occurring high_ace cards 3) k)) is_pairs)

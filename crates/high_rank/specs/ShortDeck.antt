@@ -3,7 +3,7 @@
 use Rattle.std.specs.Prelude.{◌&&◌, ◌==◌, ℕ, ◌-◌, Bool, List, [], ◌∷◌, Option, Some}
 use Rattle.card_set.specs.declared.card.Card.{Card}
 use Rattle.card_set.specs.Ranks.{high_ace, is_one_suit}
-use Rattle.card_set.specs.Classes.{has_four_of_a_kind, has_full_house, has_three_of_a_kind, has_two_pair, has_one_pair, has_no_pair, place, IsBelow}
+use Rattle.card_set.specs.Classes.{has_four_of_a_kind, has_full_house, has_three_of_a_kind, has_two_pair, has_one_pair, has_no_pair, classes_above, IsBelow}
 use Rattle.hand_order.specs.Digits.{class_above}
 use Rattle.hand_order.specs.declared.straights.LowStraight.TheVariants as straights
 use Rattle.hand_order.specs.Straights.{is_straight, deciding_ranks}
@@ -12,7 +12,7 @@ use Rattle.hand_order.specs.Straights.{is_straight, deciding_ranks}
 -- a kind, two pair, pair, high card
 unfoldable pub short_class : List Card → ℕ
 short_class cards =
-    place (
+    classes_above (
     (is_straight straights.NineHigh cards && is_one_suit cards)
     ∷ has_four_of_a_kind high_ace cards
     ∷ is_one_suit cards

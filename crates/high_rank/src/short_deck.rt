@@ -1,6 +1,6 @@
 //! The high order of the short deck, with a flush above a full house.
 use card_set::{CardRow, CardSet};
-use hand_order::{FlushPlace, HandOrder, LowStraight, Score, best_high, hand_points};
+use hand_order::{FlushRank, HandOrder, LowStraight, Score, best_high, hand_points};
 
 /// The order of short-deck hold'em, played with 36 cards from six to ace. The ace is low only in
 /// A6789, and suits never break ties.
@@ -24,13 +24,13 @@ impl HandOrder for ShortDeckHigh {
 
     fn score(cards: &CardRow) -> Option<Score> {
         Some(Score {
-            points: hand_points(cards, LowStraight::NineHigh, FlushPlace::AboveFullHouse),
+            points: hand_points(cards, LowStraight::NineHigh, FlushRank::AboveFullHouse),
         })
     }
 
     fn best_set(cards: &CardSet) -> Option<Score> {
         Some(Score {
-            points: best_high(cards, LowStraight::NineHigh, FlushPlace::AboveFullHouse),
+            points: best_high(cards, LowStraight::NineHigh, FlushRank::AboveFullHouse),
         })
     }
 

@@ -1,7 +1,7 @@
 //! The high order of up-cards, in which straights and flushes do not count.
 ghost use Rattle.std.specs.Prelude.{◌≡◌, ◌<◌, ◌-◌, List, length, ◌↔◌};
 ghost use Rattle.card_set.specs.declared.card.Card.{Card};
-ghost use Rattle.card_set.specs.Classes.{place};
+ghost use Rattle.card_set.specs.Classes.{classes_above};
 ghost use Rattle.card_set.specs.Row.{cards_of};
 ghost use Rattle.card_set.specs.UpCards.{AreUpCards, IsWeakerUpHigh};
 ghost use Rattle.high_rank.specs.UpHigh.{up_high_points, up_high_table};
@@ -29,7 +29,7 @@ pub fn up_high(cards: &CardRow) -> Score
 
 // The classes of up-cards; the best has the greatest number.
 fn up_class(fours: usize, threes: usize, pairs: usize) -> u32
-    ensures { result ≡ 4 - place (up_high_table fours threes pairs) }
+    ensures { result ≡ 4 - classes_above (up_high_table fours threes pairs) }
 {
     if fours == 1 {
         4

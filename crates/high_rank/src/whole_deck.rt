@@ -1,6 +1,6 @@
 //! The high order: the better class, then the higher ranks, with ranks that occur more often first.
 use card_set::{CardRow, CardSet};
-use hand_order::{FlushPlace, HandOrder, LowStraight, Score, best_high, hand_points};
+use hand_order::{FlushRank, HandOrder, LowStraight, Score, best_high, hand_points};
 
 /// The order of hold'em, Omaha and stud. The ace is low only in A2345, and suits never break ties.
 #[derive(Clone, Copy, Debug)]
@@ -22,13 +22,13 @@ impl HandOrder for High {
 
     fn score(cards: &CardRow) -> Option<Score> {
         Some(Score {
-            points: hand_points(cards, LowStraight::FiveHigh, FlushPlace::BelowFullHouse),
+            points: hand_points(cards, LowStraight::FiveHigh, FlushRank::BelowFullHouse),
         })
     }
 
     fn best_set(cards: &CardSet) -> Option<Score> {
         Some(Score {
-            points: best_high(cards, LowStraight::FiveHigh, FlushPlace::BelowFullHouse),
+            points: best_high(cards, LowStraight::FiveHigh, FlushRank::BelowFullHouse),
         })
     }
 

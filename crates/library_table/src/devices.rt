@@ -115,8 +115,8 @@ fn what_is_fetched(
     case: &Case<'_>,
 ) -> Result<String, AllocError> {
     let name = name_of(alloc, case.text)?;
-    let once = told(alloc, shelf.fetch(alloc, &name, case.limit))?;
-    let again = told(alloc, shelf.fetch(alloc, &name, case.limit))?;
+    let once = device_text(alloc, shelf.fetch(alloc, &name, case.limit))?;
+    let again = device_text(alloc, shelf.fetch(alloc, &name, case.limit))?;
     format!(in alloc; "{once}, {again}")
 }
 
@@ -128,7 +128,7 @@ fn name_of(alloc: Global, text: &str) -> Result<String, AllocError> {
     }
 }
 
-fn told(alloc: Global, fetched: Result<Fetched, ShelfFault>) -> Result<String, AllocError> {
+fn device_text(alloc: Global, fetched: Result<Fetched, ShelfFault>) -> Result<String, AllocError> {
     match fetched {
         Ok(Fetched::Bytes(bytes)) => quoted(alloc, &bytes),
         Ok(Fetched::Absent) => String::from_str(alloc, "absent"),

@@ -1,7 +1,7 @@
 -- What is read from low cards makes their number.
 use Rattle.std.proofs.Common.{◌≡◌, ℕ, ◌^◌, ◌<◌, ◌≤◌, List, length, ◌↔◌, sym, ◌∙◌, ap, subst, arith}
 use Rattle.card_set.specs.declared.card.Card.{Card}
-use Rattle.card_set.specs.Classes.{place}
+use Rattle.card_set.specs.Classes.{classes_above}
 use Rattle.card_set.specs.Different.{AllDifferent}
 use Rattle.card_set.specs.Ranks.{low_ace, ranks_occurring, ranks_of}
 use Rattle.card_set.specs.UpCards.{AreUpCards, low_class, IsWeakerLow}
@@ -11,15 +11,15 @@ use Rattle.low_rank.specs.Low.{low_points, low_table}
 use Rattle.low_rank.specs.LowLaw.{low_missing, low_ranked, low_ordered}
 
 -- the class, from what is read
-pub class_seen : (cards : List Card) (fours threes pairs : ℕ) → fours ≡ ranks_occurring low_ace cards 4 → threes ≡ ranks_occurring low_ace cards 3 → pairs ≡ ranks_occurring low_ace cards 2 → place (low_table fours threes pairs) ≡ low_class cards
+pub class_seen : (cards : List Card) (fours threes pairs : ℕ) → fours ≡ ranks_occurring low_ace cards 4 → threes ≡ ranks_occurring low_ace cards 3 → pairs ≡ ranks_occurring low_ace cards 2 → classes_above (low_table fours threes pairs) ≡ low_class cards
 unfolding low_class
 class_seen cards fours threes pairs is_fours is_threes is_pairs =
-    ap (λ (k : ℕ). place (low_table k threes pairs)) is_fours
-    ∙ ap (λ (k : ℕ). place (low_table (ranks_occurring low_ace cards 4) k pairs)) is_threes
-    ∙ ap (λ (k : ℕ). place (low_table (ranks_occurring low_ace cards 4) (ranks_occurring low_ace cards 3) k)) is_pairs
+    ap (λ (k : ℕ). classes_above (low_table k threes pairs)) is_fours
+    ∙ ap (λ (k : ℕ). classes_above (low_table (ranks_occurring low_ace cards 4) k pairs)) is_threes
+    ∙ ap (λ (k : ℕ). classes_above (low_table (ranks_occurring low_ace cards 4) (ranks_occurring low_ace cards 3) k)) is_pairs
 
 -- is one of the six
-pub class_within : (cards : List Card) (fours threes pairs : ℕ) → length cards ≤ 5 → AllDifferent cards → fours ≡ ranks_occurring low_ace cards 4 → threes ≡ ranks_occurring low_ace cards 3 → pairs ≡ ranks_occurring low_ace cards 2 → place (low_table fours threes pairs) ≤ 5
+pub class_within : (cards : List Card) (fours threes pairs : ℕ) → length cards ≤ 5 → AllDifferent cards → fours ≡ ranks_occurring low_ace cards 4 → threes ≡ ranks_occurring low_ace cards 3 → pairs ≡ ranks_occurring low_ace cards 2 → classes_above (low_table fours threes pairs) ≤ 5
 class_within cards fours threes pairs few different is_fours is_threes is_pairs =
     omega (arith, class_seen cards fours threes pairs is_fours is_threes is_pairs, (low_ranked cards few different).within)
 

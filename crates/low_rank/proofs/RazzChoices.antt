@@ -7,7 +7,7 @@ use Rattle.std.proofs.lemmas.Option.{same_Some}
 use Rattle.card_set.specs.declared.card.Card.{Card}
 use Rattle.card_set.specs.declared.card.Rank.{Rank}
 use Rattle.card_set.specs.declared.card.Rank.TheVariants as ranks
-use Rattle.card_set.specs.Classes.{place}
+use Rattle.card_set.specs.Classes.{classes_above}
 use Rattle.card_set.specs.Different.{AllDifferent}
 use Rattle.card_set.specs.Ranks.{falling_heights, low_ace, occurring, ranks_occurring, ranks_of, times}
 use Rattle.card_set.specs.UpCards.{low_class}
@@ -46,7 +46,7 @@ record HasShape (list : ℕ → List ℕ) (class : ℕ) : Type 0 where
   pub less : (0 < seldom class) × (seldom class < often class)
 
 abbrev Shaped : ℕ → ℕ → ℕ → ℕ → Type 0
-Shaped four three two one = (list : ℕ → List ℕ) → length (list 4) ≡ four → length (list 3) ≡ three → length (list 2) ≡ two → length (list 1) ≡ one → 4 * four + 3 * three + 2 * two + one ≡ 5 → HasShape list (place (low_table four three two))
+Shaped four three two one = (list : ℕ → List ℕ) → length (list 4) ≡ four → length (list 3) ≡ three → length (list 2) ≡ two → length (list 1) ≡ one → 4 * four + 3 * three + 2 * two + one ≡ 5 → HasShape list (classes_above (low_table four three two))
 
 no_four : (list : ℕ → List ℕ) → length (list 4) ≡ 0 → list 4 ++ (list 3 ++ (list 2 ++ list 1)) ≡ list 3 ++ (list 2 ++ list 1)
 no_four list none = ap (λ (l : List ℕ). l ++ (list 3 ++ (list 2 ++ list 1))) (nil_from_length (list 4) none)
@@ -247,21 +247,21 @@ occurring_group choice m o a b n is some positive less has =
 -- the two groups are the ranks of the hand, and decide its class
 record Makes (class : ℕ) (a b four three two one : List ℕ) : Type 0 where
   pub list : four ++ (three ++ (two ++ one)) ≡ a ++ b
-  pub class_is : place (low_table (length four) (length three) (length two)) ≡ class
+  pub class_is : classes_above (low_table (length four) (length three) (length two)) ≡ class
 
 abbrev grouped : ℕ → List ℕ → List ℕ → ℕ → List ℕ
 grouped class a b n = group (often class) a (seldom class) b n
 
 makes : (class : ℕ) → class ≤ 5 → (a b : List ℕ) → length a ≡ often_ranks class → length b ≡ seldom_ranks class → Makes class a b (grouped class a b 4) (grouped class a b 3) (grouped class a b 2) (grouped class a b 1)
-makes zero few a b first others = record { list = refl; class_is = ap (λ (n : ℕ). place (low_table 0 0 n)) first }
-makes (suc zero) few a b first others = record { list = refl; class_is = ap (λ (n : ℕ). place (low_table 0 0 n)) first }
-makes (suc (suc zero)) few a b first others = record { list = refl; class_is = ap (λ (n : ℕ). place (low_table 0 0 n)) first }
-makes (suc (suc (suc zero))) few a b first others = record { list = refl; class_is = ap (λ (n : ℕ). place (low_table 0 n 0)) first }
+makes zero few a b first others = record { list = refl; class_is = ap (λ (n : ℕ). classes_above (low_table 0 0 n)) first }
+makes (suc zero) few a b first others = record { list = refl; class_is = ap (λ (n : ℕ). classes_above (low_table 0 0 n)) first }
+makes (suc (suc zero)) few a b first others = record { list = refl; class_is = ap (λ (n : ℕ). classes_above (low_table 0 0 n)) first }
+makes (suc (suc (suc zero))) few a b first others = record { list = refl; class_is = ap (λ (n : ℕ). classes_above (low_table 0 n 0)) first }
 makes (suc (suc (suc (suc zero)))) few a b first others = record {
   list = ap (λ (l : List ℕ). a ++ l) (append-nil b);
-  class_is = ap (λ (n : ℕ). place (low_table 0 n (length b))) first ∙ ap (λ (n : ℕ). place (low_table 0 1 n)) others;
+  class_is = ap (λ (n : ℕ). classes_above (low_table 0 n (length b))) first ∙ ap (λ (n : ℕ). classes_above (low_table 0 1 n)) others;
 }
-makes (suc (suc (suc (suc (suc zero))))) few a b first others = record { list = refl; class_is = ap (λ (n : ℕ). place (low_table n 0 0)) first }
+makes (suc (suc (suc (suc (suc zero))))) few a b first others = record { list = refl; class_is = ap (λ (n : ℕ). classes_above (low_table n 0 0)) first }
 makes (suc (suc (suc (suc (suc (suc class)))))) few a b first others = absurd (omega arith)
 
 -- the numbers of a class
@@ -305,9 +305,9 @@ class_made choice class a b apart few long_a long_b has =
     let facts = of_class class few in
     let at = λ (n : ℕ) (some : 0 < n). occurring_group choice (often class) (seldom class) a b n apart some facts.positive facts.less has in
     let made = makes class few a b long_a long_b in (
-      ap (λ (l : List ℕ). place (low_table (length l) (ranks_occurring low_ace choice 3) (ranks_occurring low_ace choice 2))) (at 4 (omega arith))
-          ∙ ap (λ (l : List ℕ). place (low_table (length (grouped class a b 4)) (length l) (ranks_occurring low_ace choice 2))) (at 3 (omega arith))
-          ∙ ap (λ (l : List ℕ). place (low_table (length (grouped class a b 4)) (length (grouped class a b 3)) (length l))) (at 2 (omega arith))
+      ap (λ (l : List ℕ). classes_above (low_table (length l) (ranks_occurring low_ace choice 3) (ranks_occurring low_ace choice 2))) (at 4 (omega arith))
+          ∙ ap (λ (l : List ℕ). classes_above (low_table (length (grouped class a b 4)) (length l) (ranks_occurring low_ace choice 2))) (at 3 (omega arith))
+          ∙ ap (λ (l : List ℕ). classes_above (low_table (length (grouped class a b 4)) (length (grouped class a b 3)) (length l))) (at 2 (omega arith))
           ∙ made.class_is,
       ap (λ (l : List ℕ). l ++ (occurring low_ace choice 3 ++ (occurring low_ace choice 2 ++ occurring low_ace choice 1))) (at 4 (omega arith))
           ∙ ap (λ (l : List ℕ). grouped class a b 4 ++ (l ++ (occurring low_ace choice 2 ++ occurring low_ace choice 1))) (at 3 (omega arith))

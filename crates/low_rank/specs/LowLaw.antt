@@ -6,7 +6,7 @@ use Rattle.std.specs.Prelude.{nat_le}
 use Rattle.std.proofs.lemmas.Bool.{and_parts}
 use Rattle.std.proofs.lemmas.Option.{cond_some}
 use Rattle.card_set.specs.declared.card.Card.{Card}
-use Rattle.card_set.specs.Classes.{place, has_no_pair, has_one_pair, has_two_pair, has_three_of_a_kind, has_full_house, has_four_of_a_kind}
+use Rattle.card_set.specs.Classes.{classes_above, has_no_pair, has_one_pair, has_two_pair, has_three_of_a_kind, has_full_house, has_four_of_a_kind}
 use Rattle.card_set.specs.Different.{AllDifferent}
 use Rattle.card_set.specs.Ranks.{low_ace, ranks_of}
 use Rattle.card_set.specs.UpCards.{low_class, IsWeakerLow}
@@ -80,7 +80,7 @@ unfolding low_class
 best_class cards none =
     ap
     (λ (b : Bool).
-    place
+    classes_above
     (b ∷ has_one_pair low_ace cards ∷ has_two_pair low_ace cards
     ∷ has_three_of_a_kind low_ace cards ∷ has_full_house low_ace cards
     ∷ has_four_of_a_kind low_ace cards ∷ []))

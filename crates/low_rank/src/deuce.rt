@@ -5,7 +5,7 @@ ghost use Rattle.hand_order.specs.Choices.{AreHeld};
 ghost use Rattle.low_rank.specs.DeuceSeven.{points};
 
 use card_set::{CardRow, CardSet};
-use hand_order::{FlushPlace, HandOrder, Judge, LowStraight, Score, best_listed, hand_points};
+use hand_order::{FlushRank, HandOrder, LowStraight, Score, Scorer, best_listed, hand_points};
 
 /// The order of deuce-to-seven draw. The ace is always high, so A2345 is not a straight.
 #[derive(Clone, Copy, Debug)]
@@ -36,12 +36,12 @@ impl HandOrder for DeuceSeven {
     ghost lawful = { lawful_deuce_seven };
 }
 
-impl Judge for DeuceHands {
-    ghost accepts = { λ judge cards. AreHeld 5 cards };
+impl Scorer for DeuceHands {
+    ghost accepts = { λ scorer cards. AreHeld 5 cards };
 
-    ghost points = { λ judge cards. points cards };
+    ghost points = { λ scorer cards. points cards };
 
-    fn judge(&self, chosen: &CardRow) -> Option<Score> {
+    fn score(&self, chosen: &CardRow) -> Option<Score> {
         Some(deuce_score(chosen))
     }
 }
@@ -56,6 +56,6 @@ fn deuce_score(cards: &CardRow) -> Score
     ensures { Some result.points ≡ points (cards_of cards.now) }
 {
     Score {
-        points: 0x100_0000 - hand_points(cards, LowStraight::Nothing, FlushPlace::BelowFullHouse),
+        points: 0x100_0000 - hand_points(cards, LowStraight::Nothing, FlushRank::BelowFullHouse),
     }
 }

@@ -1,7 +1,7 @@
 //! Scores for low cards: the greatest number minus the number that the class and the ranks make.
 ghost use Rattle.std.specs.Prelude.{◌≡◌, ◌<◌, ◌≤◌, ◌-◌, List, length, ◌↔◌};
 ghost use Rattle.card_set.specs.declared.card.Card.{Card};
-ghost use Rattle.card_set.specs.Classes.{place};
+ghost use Rattle.card_set.specs.Classes.{classes_above};
 ghost use Rattle.card_set.specs.Different.{AllDifferent};
 ghost use Rattle.card_set.specs.Row.{cards_of};
 ghost use Rattle.card_set.specs.UpCards.{AreUpCards, IsWeakerLow};
@@ -39,8 +39,8 @@ pub fn low_score(cards: &CardRow) -> Score
 
 // The classes of low cards; the best has the smallest number.
 fn class_of(fours: usize, threes: usize, pairs: usize) -> u32
-    requires { place (low_table fours threes pairs) ≤ 5 }
-    ensures { result ≡ place (low_table fours threes pairs) }
+    requires { classes_above (low_table fours threes pairs) ≤ 5 }
+    ensures { result ≡ classes_above (low_table fours threes pairs) }
 {
     if fours == 0 && threes == 0 && pairs == 0 {
         0

@@ -26,7 +26,7 @@ use Rattle.ohh_format.proofs.EffectRounds.{EffectRound, steps_after}
 use Rattle.ohh_format.proofs.PutsAgain.{Put, posts_at}
 use Rattle.ohh_format.proofs.RoundsAgain.{board_step, with_board}
 use Rattle.ohh_format.proofs.StepsAgain.{step_of, steps_of}
-use Rattle.first_fault.specs.Numbers.{kept_number}
+use Rattle.first_fault.specs.Numbers.{saturated}
 
 -- ---- steps, one after the other
 
@@ -71,7 +71,7 @@ event_of dialect (Mucks seat) = said.Muck seat ∷ []
 
 -- events with the number of one action
 abbrev pub at_number : ℕ → List Said → List Numbered
-at_number n events = map (λ event. (kept_number n, event)) events
+at_number n events = map (λ event. (saturated n, event)) events
 
 -- the events of what is done; the first has this number
 abbrev pub numbered_effects : Dialect → ℕ → List ActionEffect → List Numbered
@@ -362,15 +362,15 @@ module _ (dialect : Dialect) (count : ℕ) (some : 1 ≤ count) (cards : ℕ →
           ap (find (λ (x : PlainStep). is_deal_to first x.effect)) same
           ∙ find-append (λ (x : PlainStep). is_deal_to first x.effect) front (step ∷ (others ++ back))
           ∙ ap₂ (λ (a b : Option PlainStep). option_or a b) (before first (omega arith)).none (ap (λ (b : Bool). cond b (Some step) (find (λ (x : PlainStep). is_deal_to first x.effect) (others ++ back))) self) in
-          let one : hole_deal count all first ≡ (kept_number n, said.Hole first (cards first)) =
+          let one : hole_deal count all first ≡ (saturated n, said.Hole first (cards first)) =
           ap₂ (λ (f : Option PlainStep) (l : List Slot). (option_map_or (λ number. number) (option_map (λ (x : PlainStep). x.number) f) 0, said.Hole first (hole_cards count l))) found dealt
-          ∙ ap (λ (l : List Slot). (kept_number n, said.Hole first l)) (whole_row (cards first) (whole first (omega arith) (omega arith))) in
+          ∙ ap (λ (l : List Slot). (saturated n, said.Hole first l)) (whole_row (cards first) (whole first (omega arith) (omega arith))) in
           let next : (seat : ℕ) → first + 1 ≤ seat → NoDeal seat (front ++ step ∷ []) =
           λ seat from. no_deal_both seat front (step ∷ []) (before seat (omega (arith, from)))
           (no_deal_more seat step [] (let apart : (first == seat) ≡ false = ne_eqb first seat (λ at. omega (arith, at, from)) in record { cards = ap (λ (b : Bool). if b then cards first else []) apart; none = apart }) (record { cards = refl; none = refl })) in
           ap₂ (λ (x : Numbered) (l : List Numbered). x ∷ l) one (later (n + 1) (index + 1) (front ++ step ∷ []) (same ∙ sym (append_assoc front (step ∷ []) (others ++ back))) next)
           ∙ sym (ap (λ (l : List Said). numbered_from n (l ++ rest_said)) here
-          ∙ ap (λ (b : Bool). if b then (kept_number n, said.Hole first (cards first)) ∷ numbered_from (n + 1) rest_said else (0, said.Hole first (cards first)) ∷ numbered_from n rest_said) e)
+          ∙ ap (λ (b : Bool). if b then (saturated n, said.Hole first (cards first)) ∷ numbered_from (n + 1) rest_said else (0, said.Hole first (cards first)) ∷ numbered_from n rest_said) e)
       by_known false e same later =
           let others : List PlainStep = steps_of dialect n 0 index (flat_map deal_of (range_with_len (first + 1) many)) in
           let none : NoDeal first all = subst (NoDeal first) (sym same) (no_deal_both first front (others ++ back) (before first (omega arith)) (no_deal_both first others back (no_later n index first (first + 1) many (omega arith)) (behind first))) in
@@ -381,4 +381,4 @@ module _ (dialect : Dialect) (count : ℕ) (some : 1 ≤ count) (cards : ℕ →
           ∙ ap (λ (l : List Slot). (0, said.Hole first l)) hidden in
           ap₂ (λ (x : Numbered) (l : List Numbered). x ∷ l) one (later n index front same (λ seat from. before seat (omega (arith, from))))
           ∙ sym (ap (λ (l : List Said). numbered_from n (l ++ rest_said)) here
-          ∙ ap (λ (b : Bool). if b then (kept_number n, said.Hole first (cards first)) ∷ numbered_from (n + 1) rest_said else (0, said.Hole first (cards first)) ∷ numbered_from n rest_said) e)
+          ∙ ap (λ (b : Bool). if b then (saturated n, said.Hole first (cards first)) ∷ numbered_from (n + 1) rest_said else (0, said.Hole first (cards first)) ∷ numbered_from n rest_said) e)

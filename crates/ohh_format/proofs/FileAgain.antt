@@ -10,7 +10,7 @@ use Rattle.hand_records.specs.declared.trace.Play.{Play}
 use Rattle.ohh_members.specs.declared.dialect.Dialect.{Dialect}
 use Rattle.ohh_writing.specs.Lines.{AreRead, IsTextOf, Spells, hand_text}
 use Rattle.ohh_writing.specs.Tree.{hand_tree}
-use Rattle.ohh_reading.specs.Reading.{found_said, hands_said, numbered_hand, reading, told, tree_of, tree_said}
+use Rattle.ohh_reading.specs.Reading.{found_said, hands_said, numbered_hand, reading, tree_of, tree_said, with_paths}
 use Rattle.ohh_reading.specs.Blocks.{blocks_of}
 use Rattle.ohh_reading.specs.declared.fault.OhhHandFault.{OhhHandFault}
 use Rattle.ohh_rounds.specs.Steps.{moves_in}
@@ -65,7 +65,7 @@ hands_read dialect file_moves place (play ∷ rest) few each moves read =
     (with_first (hand_again dialect place play) (hands_again dialect (place + 1) rest) (thread_from (numbered_hand dialect) next (place + 1 + 1) (texts dialect (place + 1) rest))
     (hands_read dialect next (place + 1) rest (omega (arith, few)) each.1 (omega (arith, moves, sum, counted_here)) read.1))
 
-told_again : (found : Result (List PlainHand × ℕ) OhhHandFault) (hands : List PlainHand) → hands_found found ≡ Ok hands → told found ≡ Ok hands
+told_again : (found : Result (List PlainHand × ℕ) OhhHandFault) (hands : List PlainHand) → hands_found found ≡ Ok hands → with_paths found ≡ Ok hands
 told_again (Ok found) hands is = let same : found.0 ≡ hands = cc in ap (λ (l : List PlainHand). Ok l) same
 told_again (Err fault) hands is = absurd (cc (is))
 
@@ -75,5 +75,5 @@ pub plays_again : (dialect : Dialect) (plays : List Play) (bytes : List ℕ) →
 unfolding reading
 plays_again dialect plays bytes few each moves spells =
     let blocks : blocks_of bytes ≡ texts dialect 0 plays = ap blocks_of spells.lines ∙ blocks_again dialect 0 plays in
-    ap (λ (l : List (List ℕ)). told (hands_said dialect l)) blocks
+    ap (λ (l : List (List ℕ)). with_paths (hands_said dialect l)) blocks
     ∙ told_again (hands_said dialect (texts dialect 0 plays)) (hands_again dialect 0 plays) (hands_read dialect 0 0 plays (omega (arith, few)) each (omega (arith, moves)) spells.trees)

@@ -6,7 +6,7 @@ use Rattle.ohh_format.specs.Again.{notes_again}
 use Rattle.ohh_writing.specs.Seating.{is_circular, numbers_spelled}
 use Rattle.hand_records.proofs.NoteLaws.{label_twice, names_along, notes_same, numbers_again}
 use Rattle.ohh_format.specs.KeptNotes.{kept_in_ohh, numbers_round}
-use Rattle.hand_records.specs.SaidNotes.{KeepsNotes, SaidNotes, kept_label, name_said, numbers_said, plain_notes, said_notes}
+use Rattle.hand_records.specs.SaidNotes.{KeepsNotes, SaidNotes, hand_name_noted, name_said, numbers_said, plain_notes, said_notes}
 
 -- numbers that are written, and are noted
 numbers_kept : (count : ℕ) (said : Option (List ℕ)) → numbers_said count (numbers_spelled count said) ≡ option_and_then numbers_round (numbers_said count said)
@@ -44,7 +44,7 @@ keeps_said place count notes again same =
       names = names_along count again.names (name_said notes.names) (ap (λ (n : SaidNotes). n.names) same);
       seats = numbers_again count again.seats (numbers_spelled count notes.seats) (ap (λ (n : SaidNotes). n.seats) same);
       seat_count = ap (λ (n : SaidNotes). n.seat_count) same;
-      hand = ap (λ (n : SaidNotes). kept_label place n.hand) same ∙ label_twice place notes.hand;
+      hand = ap (λ (n : SaidNotes). hand_name_noted place n.hand) same ∙ label_twice place notes.hand;
       texts = ap (λ (n : SaidNotes). n.texts) same;
       year = ap (λ (n : SaidNotes). n.year) same;
       month = ap (λ (n : SaidNotes). n.month) same;

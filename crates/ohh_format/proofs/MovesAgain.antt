@@ -19,11 +19,11 @@ use Rattle.ohh_members.specs.declared.dialect.Dialect.TheVariants as dialects
 use Rattle.ohh_writing.specs.Actions.{raise_amount}
 use Rattle.ohh_rounds.specs.Actions.{raise_by}
 use Rattle.ohh_rounds.specs.HandContext.{PlainHandContext}
-use Rattle.ohh_format.specs.Again.{is_told, move_again, move_on, moves_again, numbered_from, raise_again, raise_by_dialect}
+use Rattle.ohh_format.specs.Again.{has_action, move_again, move_on, moves_again, numbered_from, raise_again, raise_by_dialect}
 use Rattle.ohh_format.proofs.Effects.{ActionEffect, Bets, Calls, Checks, Folds, Raises, act_effect, call_effect, move_effect, move_effects, raise_effect}
 use Rattle.ohh_format.proofs.EventsAgain.{IsNoDeal, IsNoFold, IsNoPost, at_number, event_of, numbered_both, numbered_effects}
 use Rattle.ohh_format.proofs.ToldEffects.{IsGoodMove}
-use Rattle.first_fault.specs.Numbers.{kept_number}
+use Rattle.first_fault.specs.Numbers.{saturated}
 
 -- a move whose seat is known, to chips within the limit of stated amounts; a call goes no further
 -- than the current bet
@@ -35,7 +35,7 @@ pub record CanBeWritten (setting : PlainHandContext) (move : TracedMove) : Type 
 -- how many events have an action
 abbrev pub told_in : List Said → ℕ
 told_in [] = 0
-told_in (event ∷ rest) = cond (is_told event) 1 0 + told_in rest
+told_in (event ∷ rest) = cond (has_action event) 1 0 + told_in rest
 
 pub told_both : (some more : List Said) → told_in (some ++ more) ≡ told_in some + told_in more
 told_both [] more = omega arith
@@ -43,13 +43,13 @@ told_both (event ∷ some) more = omega (arith, told_both some more)
 
 pub numbered_behind : (n : ℕ) (some more : List Said) → numbered_from n (some ++ more) ≡ numbered_from n some ++ numbered_from (n + told_in some) more
 numbered_behind n [] more = ap (λ k. numbered_from k more) (omega arith)
-numbered_behind n (event ∷ some) more = by_told (is_told event) (numbered_behind (n + 1) some more) (numbered_behind n some more)
+numbered_behind n (event ∷ some) more = by_told (has_action event) (numbered_behind (n + 1) some more) (numbered_behind n some more)
   where
     by_told : (told : Bool) → numbered_from (n + 1) (some ++ more) ≡ numbered_from (n + 1) some ++ numbered_from (n + 1 + told_in some) more → numbered_from n (some ++ more) ≡ numbered_from n some ++ numbered_from (n + told_in some) more
-        → (if told then (kept_number n, event) ∷ numbered_from (n + 1) (some ++ more) else (0, event) ∷ numbered_from n (some ++ more))
-        ≡ (if told then (kept_number n, event) ∷ numbered_from (n + 1) some else (0, event) ∷ numbered_from n some) ++ numbered_from (n + (cond told 1 0 + told_in some)) more
+        → (if told then (saturated n, event) ∷ numbered_from (n + 1) (some ++ more) else (0, event) ∷ numbered_from n (some ++ more))
+        ≡ (if told then (saturated n, event) ∷ numbered_from (n + 1) some else (0, event) ∷ numbered_from n some) ++ numbered_from (n + (cond told 1 0 + told_in some)) more
     by_told true next same =
-        ap (λ (l : List Numbered). (kept_number n, event) ∷ l) (next ∙ ap (λ k. numbered_from (n + 1) some ++ numbered_from k more) (omega arith))
+        ap (λ (l : List Numbered). (saturated n, event) ∷ l) (next ∙ ap (λ k. numbered_from (n + 1) some ++ numbered_from k more) (omega arith))
     by_told false next same = ap (λ (l : List Numbered). (0, event) ∷ l) (same ∙ ap (λ k. numbered_from n some ++ numbered_from k more) (omega arith))
 
 -- ---- one move
@@ -64,10 +64,10 @@ record IsSame (dialect : Dialect) (effects : List ActionEffect) (events : List S
   count : length effects ≡ told_in events
   few : length effects ≤ 1
 
-one_same : (dialect : Dialect) (effect : ActionEffect) (event : Said) → event_of dialect effect ≡ event ∷ [] → is_told event ≡ true → IsSame dialect (effect ∷ []) (event ∷ [])
+one_same : (dialect : Dialect) (effect : ActionEffect) (event : Said) → event_of dialect effect ≡ event ∷ [] → has_action event ≡ true → IsSame dialect (effect ∷ []) (event ∷ [])
 one_same dialect effect event is told =
     record {
-      events_are = λ n. ap (λ (l : List Said). at_number n l ++ []) is ∙ sym (ap (λ (b : Bool). if b then (kept_number n, event) ∷ [] else (0, event) ∷ []) told);
+      events_are = λ n. ap (λ (l : List Said). at_number n l ++ []) is ∙ sym (ap (λ (b : Bool). if b then (saturated n, event) ∷ [] else (0, event) ∷ []) told);
       count = sym (ap {B = ℕ} (λ b. cond b 1 0 + 0) told);
       few = omega arith;
     }

@@ -34,7 +34,7 @@ use Rattle.card_set.proofs.Options.{from_none_some, none_anyway}
 use Rattle.hand_records.proofs.NoteTexts.{not_empty, noted_again}
 use Rattle.chip_ledger.specs.SeatsSaid.{default_name}
 use Rattle.hand_records.specs.NoteTable.{texts_of}
-use Rattle.hand_records.specs.SaidNotes.{kept_label}
+use Rattle.hand_records.specs.SaidNotes.{hand_name_noted}
 
 -- ---- texts
 
@@ -52,7 +52,7 @@ unfolding text_note_said text_said note_said
 text_again path None is = refl
 text_again path (Some text) is = note_again [] text path is (not_empty text is)
 
-label_again : (place : ℕ) (path : Path) (said : Option (List ℕ)) → place < MOST_HANDS → IfSome said IsNoteText → or_none (label_said (decimal place) path) (Some (string (unwrap_or said (decimal place)))) ≡ Ok (kept_label place said)
+label_again : (place : ℕ) (path : Path) (said : Option (List ℕ)) → place < MOST_HANDS → IfSome said IsNoteText → or_none (label_said (decimal place) path) (Some (string (unwrap_or said (decimal place)))) ≡ Ok (hand_name_noted place said)
 unfolding label_said note_said
 label_again place path None few is =
     let short : length (decimal place) ≤ 20 = length-decimal-le 20 place (omega arith) (omega (arith, few)) (omega (arith, few)) in
@@ -118,7 +118,7 @@ module _ (place count : ℕ) (stacks : SeatRow) (notes : Notes) (ohh : Data) (fe
   numbers = numbers_spelled count notes.seats
 
   labels_again : labels_said place count ohh
-      ≡ Ok (record { hand = kept_label place notes.hand; texts = texts_of notes; seat_count = notes.seat_count; moment = moment_of notes })
+      ≡ Ok (record { hand = hand_name_noted place notes.hand; texts = texts_of notes; seat_count = notes.seat_count; moment = moment_of notes })
   unfolding labels_said
   labels_again =
       rw (

@@ -29,7 +29,7 @@ use Rattle.ohh_writing.specs.Games.{is_spelled_game}
 use Rattle.ohh_writing.specs.Lines.{Spells}
 use Rattle.ohh_writing.specs.Spelled.{first_unspelled, has_closed, has_spelled_antes, has_spelled_blinds, has_spelled_sizes, kept_facts, trace_facts, unspelled}
 use Rattle.ohh_reading.specs.Reading.{reading}
-use Rattle.ohh_format.specs.Again.{hand_again, hands_again, is_told, notes_again, numbered_from, script_again}
+use Rattle.ohh_format.specs.Again.{hand_again, hands_again, has_action, notes_again, numbered_from, script_again}
 use Rattle.hand_canon.specs.ReadAgain.{AreAgain, IsAgain}
 use Rattle.ohh_format.specs.KeptNotes.{kept_in_ohh}
 use Rattle.ohh_format.proofs.KeptAgain.{keeps_said}
@@ -39,7 +39,7 @@ use Rattle.hand_canon.proofs.SamePlay.{setup_same}
 use Rattle.ohh_format.proofs.SoundPlays.{fact_holds, sound_again, spelled_setup}
 use Rattle.ohh_format.proofs.StatedAgrees.{stated_agrees}
 use Rattle.ohh_format.proofs.WordPlays.{words_of, words_played}
-use Rattle.first_fault.specs.Numbers.{kept_number}
+use Rattle.first_fault.specs.Numbers.{saturated}
 use Rattle.hand_records.specs.Moves.{moves_played}
 use Rattle.hand_records.proofs.Refusals.{both_none, none_refused}
 use Rattle.play_event.proofs.ScriptLaws.{said_numbered}
@@ -88,10 +88,10 @@ play_again dialect keep play sound none =
 -- numbered events, without the numbers
 pub events_said : (n : ℕ) (script : List Said) → map (λ (event : Numbered). event.1) (numbered_from n script) ≡ script
 events_said n [] = refl
-events_said n (event ∷ rest) = by_action (is_told event) (events_said (n + 1) rest) (events_said n rest)
+events_said n (event ∷ rest) = by_action (has_action event) (events_said (n + 1) rest) (events_said n rest)
   where
     by_action : (told : Bool) → map (λ (e : Numbered). e.1) (numbered_from (n + 1) rest) ≡ rest → map (λ (e : Numbered). e.1) (numbered_from n rest) ≡ rest
-        → map (λ (e : Numbered). e.1) (if told then (kept_number n, event) ∷ numbered_from (n + 1) rest else (0, event) ∷ numbered_from n rest) ≡ event ∷ rest
+        → map (λ (e : Numbered). e.1) (if told then (saturated n, event) ∷ numbered_from (n + 1) rest else (0, event) ∷ numbered_from n rest) ≡ event ∷ rest
     by_action true more same = ap (λ (l : List Said). event ∷ l) more
     by_action false more same = ap (λ (l : List Said). event ∷ l) same
 

@@ -9,7 +9,7 @@ use Rattle.play_event.specs.Played.{move_said}
 use Rattle.play_event.specs.declared.setup.Setup.{Setup}
 use Rattle.play_event.specs.TraceCore.{TraceCore}
 use Rattle.canon_laws.proofs.SuitedRules.{suits_own}
-use Rattle.hand_canon.specs.Judged.{IsTraceOfLegal}
+use Rattle.hand_canon.specs.LegalPlay.{IsTraceOfLegal}
 use Rattle.hand_records.specs.SoundRecord.{script_said}
 use Rattle.hand_records.specs.declared.record.Record.{Record}
 use Rattle.hand_records.specs.declared.trace.Play.{Play}

@@ -10,7 +10,7 @@ use Rattle.play_event.specs.Seats.{all_seats}
 use Rattle.hand_records.specs.declared.record.NetRow.{NetRow}
 use Rattle.hand_records.specs.declared.record.Stated.{Stated}
 use Rattle.hand_records.specs.declared.trace.Trace.{Trace}
-use Rattle.hand_canon.specs.Agreement.{Comparison, finish_compared, first_difference, is_different, pot_total_of, pots_compared, row_compared, total_compared, value_compared, win_compared, win_of}
+use Rattle.hand_canon.specs.Agreement.{Comparison, finish_compared, first_difference, is_different, pot_total_of, pots_compared, seats_compared, total_compared, value_compared, win_compared, win_of}
 use Rattle.card_set.proofs.Integers.{not_different_whole}
 use Rattle.card_set.proofs.NumbersOfRange.{mapped_at}
 
@@ -43,7 +43,7 @@ module _ (trace : Trace) (row : SeatRow) (same : amounts_in row ≡ map (win_of 
       ∙ mapped_at (win_of trace) 0 1 seats (seat - 1) within
       ∙ ap (win_of trace) number
 
-  wins_agree : (rest : List Comparison) → find is_different (row_compared trace win_compared (Some row) ++ rest) ≡ find is_different rest
+  wins_agree : (rest : List Comparison) → find is_different (seats_compared trace win_compared (Some row) ++ rest) ≡ find is_different rest
   wins_agree rest = none_differ (win_compared trace row) 1 seats rest (λ seat from to. not_different_whole (amount_of row seat) (win_of trace seat) (win_is seat from to))
 
 -- the total
@@ -53,7 +53,7 @@ total_agrees trace =
 
 -- what is read of the stated facts
 some_wins : (trace : Trace) (wins : Option SeatRow) (rest : List Comparison) → option_map amounts_in wins ≡ Some (map (win_of trace) (all_seats trace.setup))
-    → find is_different (row_compared trace win_compared wins ++ rest) ≡ find is_different rest
+    → find is_different (seats_compared trace win_compared wins ++ rest) ≡ find is_different rest
 some_wins trace None rest same = absurd (cc (same))
 some_wins trace (Some row) rest same =
     let here : amounts_in row ≡ map (win_of trace) (all_seats trace.setup) = cc in
@@ -73,9 +73,9 @@ pub record StatesWins (trace : Trace) (stated : Stated) : Type 0 where
 -- so nothing that is stated differs
 pub stated_agrees : (trace : Trace) (stated : Stated) → StatesWins trace stated → first_difference trace stated ≡ None
 stated_agrees trace stated states =
-    let values = row_compared trace value_compared stated.values in
-    ap (λ finish. find is_different (row_compared trace finish_compared finish ++ (row_compared trace win_compared stated.wins ++ (total_compared trace stated.pot_total ++ values)))) (no_finish stated.finish states.finish)
+    let values = seats_compared trace value_compared stated.values in
+    ap (λ finish. find is_different (seats_compared trace finish_compared finish ++ (seats_compared trace win_compared stated.wins ++ (total_compared trace stated.pot_total ++ values)))) (no_finish stated.finish states.finish)
     ∙ some_wins trace stated.wins (total_compared trace stated.pot_total ++ values) states.wins
     ∙ ap (λ total. find is_different (total_compared trace total ++ values)) states.total
-    ∙ ap (λ (v : Option NetRow). find is_different (total_compared trace (Some (pot_total_of trace)) ++ row_compared trace value_compared v)) states.values
+    ∙ ap (λ (v : Option NetRow). find is_different (total_compared trace (Some (pot_total_of trace)) ++ seats_compared trace value_compared v)) states.values
     ∙ total_agrees trace

@@ -23,7 +23,7 @@ use Rattle.ohh_members.specs.declared.fault.Path.{Path}
 use Rattle.ohh_members.specs.Values.{integer_said, number_said, object_said, player_said, required, seat_of, text_said}
 use Rattle.ohh_writing.specs.Actions.{PlainAction}
 use Rattle.ohh_writing.specs.Tree.{action_tree, action_trees}
-use Rattle.ohh_rounds.specs.declared.post.ActionPlace.{ActionPlace}
+use Rattle.ohh_rounds.specs.declared.post.ActionLocation.{ActionLocation}
 use Rattle.ohh_rounds.specs.declared.post.PostKind.{PostKind}
 use Rattle.ohh_rounds.specs.declared.post.PostKind.TheVariants as kinds
 use Rattle.ohh_rounds.specs.NamedBlinds.{seat_count}
@@ -34,10 +34,10 @@ use Rattle.ohh_rounds.specs.Steps.{PlainActionEffect, PlainStep, Posted, Dealt, 
 use Rattle.ohh_members.specs.Words.{word_named}
 use Rattle.ohh_format.proofs.CardLists.{card_texts, cards_again, few_again, slots_again}
 use Rattle.ohh_format.proofs.Effects.{ActionEffect, Bets, Calls, Checks, Deals, Folds, Mucks, Posts, Raises, Shows, action_of}
-use Rattle.first_fault.specs.Numbers.{kept_number}
+use Rattle.first_fault.specs.Numbers.{saturated}
 
 -- what a step says of what was done, at its place
-abbrev pub told : Dialect → ActionPlace → ActionEffect → PlainActionEffect
+abbrev pub told : Dialect → ActionLocation → ActionEffect → PlainActionEffect
 told dialect place (Posts kind seat amount left) = Posted (record { kind = kind; seat = seat; amount = amount; early = true; place = place })
 told dialect place (Deals seat cards) = Dealt seat cards
 told dialect place (Folds seat) = Happened (said.Fold (Some seat))
@@ -50,7 +50,7 @@ told dialect place (Mucks seat) = Happened (said.Muck seat)
 
 -- the step of what was done, by the number of its action, its round and its index there
 abbrev pub step_of : Dialect → ℕ → ℕ → ℕ → ActionEffect → PlainStep
-step_of dialect n round index effect = record { number = kept_number n; effect = told dialect (record { round = round; action = index }) effect }
+step_of dialect n round index effect = record { number = saturated n; effect = told dialect (record { round = round; action = index }) effect }
 
 -- the steps of what was done in a round; the first has this number and this index
 abbrev pub steps_of : Dialect → ℕ → ℕ → ℕ → List ActionEffect → List PlainStep
@@ -197,10 +197,10 @@ module _ (setting : PlainHandContext) (round : ℕ) where
   AllTold n index earlier (effect ∷ rest) =
       CanBeTold earlier effect × AllTold (n + 1) (index + 1) (earlier ++ step_of setting.dialect n round index effect ∷ []) rest
 
-  counted_action : (earlier : List PlainStep) (n : ℕ) (effect : PlainActionEffect) → count_by is_action earlier + 1 ≡ n → count_by is_action (earlier ++ record { number = kept_number n; effect = effect } ∷ []) + 1 ≡ n + 1
+  counted_action : (earlier : List PlainStep) (n : ℕ) (effect : PlainActionEffect) → count_by is_action earlier + 1 ≡ n → count_by is_action (earlier ++ record { number = saturated n; effect = effect } ∷ []) + 1 ≡ n + 1
   counted_action earlier n effect at =
-      let step : PlainStep = record { number = kept_number n; effect = effect } in
-      let some : nat_lt 0 (kept_number n) ≡ true = lt-ltb 0 (kept_number n) (omega (arith, at)) in
+      let step : PlainStep = record { number = saturated n; effect = effect } in
+      let some : nat_lt 0 (saturated n) ≡ true = lt-ltb 0 (saturated n) (omega (arith, at)) in
       omega (arith, at, count_by-push is_action earlier step, ap {B = ℕ} (λ b. cond b 1 0) some)
 
   -- the actions of a round
@@ -210,7 +210,7 @@ module _ (setting : PlainHandContext) (round : ℕ) where
   actions_read earlier n index m [] at all = ap Ok (sym (append-nil earlier))
   actions_read earlier n index m (effect ∷ rest) at all =
       let step : PlainStep = step_of setting.dialect n round index effect in
-      let number : next_number earlier ≡ kept_number n = ap kept_number at in
+      let number : next_number earlier ≡ saturated n = ap saturated at in
       rw (one_read earlier index m effect all.0, number)
       (actions_read (earlier ++ step ∷ []) (n + 1) (index + 1) (m + 1) rest (counted_action earlier n step.effect at) all.1
       ∙ ap Ok (append_assoc earlier (step ∷ []) (steps_of setting.dialect (n + 1) round (index + 1) rest)))

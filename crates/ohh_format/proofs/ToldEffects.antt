@@ -15,12 +15,12 @@ use Rattle.first_fault.specs.declared.limits.TheConstants.{MOST_FILE_MOVES}
 use Rattle.ohh_members.specs.declared.dialect.Dialect.{Dialect}
 use Rattle.ohh_members.specs.Values.{seat_of}
 use Rattle.ohh_rounds.specs.NamedBlinds.{seat_count}
-use Rattle.ohh_rounds.specs.declared.post.ActionPlace.{ActionPlace}
+use Rattle.ohh_rounds.specs.declared.post.ActionLocation.{ActionLocation}
 use Rattle.ohh_rounds.specs.HandContext.{PlainHandContext}
 use Rattle.ohh_rounds.specs.Steps.{PlainStep, dealt_in, dealt_to, has_folded, is_action, is_fold_of, is_move_effect, is_other_effect, moves_in, others_in}
 use Rattle.ohh_format.proofs.Effects.{ActionEffect, Bets, Calls, Checks, Deals, Folds, Mucks, Posts, Raises, Shows}
 use Rattle.ohh_format.proofs.StepsAgain.{AllTold, HasMove, step_of, steps_of, told}
-use Rattle.first_fault.specs.Numbers.{kept_number}
+use Rattle.first_fault.specs.Numbers.{saturated}
 
 -- ---- what deeds count as
 
@@ -56,7 +56,7 @@ abbrev pub others_among : List ActionEffect → ℕ
 others_among [] = 0
 others_among (effect ∷ rest) = others_one effect + others_among rest
 
-one_move : (dialect : Dialect) (place : ActionPlace) (effect : ActionEffect) → cond (is_move_effect (told dialect place effect)) 1 0 ≡ moves_one effect
+one_move : (dialect : Dialect) (place : ActionLocation) (effect : ActionEffect) → cond (is_move_effect (told dialect place effect)) 1 0 ≡ moves_one effect
 one_move dialect place (Posts kind seat amount left) = refl
 one_move dialect place (Deals seat cards) = refl
 one_move dialect place (Folds seat) = refl
@@ -67,7 +67,7 @@ one_move dialect place (Raises seat amount left) = refl
 one_move dialect place (Shows seat cards) = refl
 one_move dialect place (Mucks seat) = refl
 
-one_other : (dialect : Dialect) (place : ActionPlace) (effect : ActionEffect) → cond (is_other_effect (told dialect place effect)) 1 0 ≡ others_one effect
+one_other : (dialect : Dialect) (place : ActionLocation) (effect : ActionEffect) → cond (is_other_effect (told dialect place effect)) 1 0 ≡ others_one effect
 one_other dialect place (Posts kind seat amount left) = refl
 one_other dialect place (Deals seat cards) = refl
 one_other dialect place (Folds seat) = refl
@@ -108,7 +108,7 @@ module _ (dialect : Dialect) (round : ℕ) where
   pub actions_of_steps : (n index : ℕ) (effects : List ActionEffect) → 1 ≤ n → count_by is_action (steps_of dialect n round index effects) ≡ length effects
   actions_of_steps n index [] some = refl
   actions_of_steps n index (effect ∷ rest) some =
-      let one : ◌≡◌ {A = ℕ} (cond (nat_lt 0 (kept_number n)) 1 0) 1 = rw (lt-ltb 0 (kept_number n) (omega (arith, some))) refl in
+      let one : ◌≡◌ {A = ℕ} (cond (nat_lt 0 (saturated n)) 1 0) 1 = rw (lt-ltb 0 (saturated n) (omega (arith, some))) refl in
       omega (arith, count_by-cons is_action (step_of dialect n round index effect) (steps_of dialect (n + 1) round (index + 1) rest), one, actions_of_steps (n + 1) (index + 1) rest (omega arith))
 
 -- ---- that they can be read

@@ -39,7 +39,7 @@ use Rattle.ohh_rounds.specs.HandContext.{PlainHandContext}
 use Rattle.ohh_rounds.specs.Steps.{PlainStep, moves_in}
 use Rattle.ohh_reading.specs.Blocks.{blocks_of}
 use Rattle.ohh_reading.specs.Hand.{hand_said, setting_of}
-use Rattle.ohh_reading.specs.Reading.{found_said, hands_said, in_hand, numbered_hand, object_of, of_hand, past_hands, reading, told, tree_of, tree_said}
+use Rattle.ohh_reading.specs.Reading.{found_said, hands_said, in_hand, numbered_hand, object_of, of_hand, past_hands, reading, tree_of, tree_said, with_paths}
 use Rattle.ohh_reading.specs.Sizes.{sizes_of}
 use Rattle.ohh_reading.specs.declared.fault.OhhHandFault.{OhhHandFault}
 use Rattle.ohh_reading.specs.declared.fault.HandFaultKind.TheVariants as wrongness
@@ -230,7 +230,7 @@ threaded dialect file_moves number (block ∷ rest) =
     by_first (Ok found) is later = then_told found (thread_from (numbered_hand dialect) found.1 (number + 1) rest) is (later found.1)
     by_first (Err fault) is later = tt
 
-all_told : (found : Result (List PlainHand × ℕ) OhhHandFault) → IfOk found AreTold → IfOk (told found) (AllByRecursion IsToldHand)
+all_told : (found : Result (List PlainHand × ℕ) OhhHandFault) → IfOk found AreTold → IfOk (with_paths found) (AllByRecursion IsToldHand)
 all_told (Ok found) is = is
 all_told (Err fault) is = tt
 

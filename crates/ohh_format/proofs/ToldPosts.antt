@@ -11,7 +11,7 @@ use Rattle.ohh_rounds.specs.Posts.{PlainPost, ante_of, first_ante, first_post, f
 use Rattle.ohh_rounds.specs.NamedBlinds.{PlainNamedBlinds, stack_of}
 use Rattle.ohh_rounds.specs.declared.checking.PostRule.{PostRule}
 use Rattle.ohh_rounds.specs.declared.checking.PostRule.TheVariants as conditions
-use Rattle.ohh_rounds.specs.declared.post.ActionPlace.{ActionPlace}
+use Rattle.ohh_rounds.specs.declared.post.ActionLocation.{ActionLocation}
 use Rattle.ohh_rounds.specs.declared.post.PostKind.{PostKind}
 
 -- the first result, if all was read
@@ -19,7 +19,7 @@ then_ok : {A B F : Type 0} (first : Result A F) (next : A → Result B F) (b : B
 then_ok (Ok a) next b is = (a, (refl, is))
 then_ok (Err fault) next b is = absurd (cc (is))
 
-none_first : (found : Option ActionPlace) (met : ⊤) → at_first found ≡ Ok met → found ≡ None
+none_first : (found : Option ActionLocation) (met : ⊤) → at_first found ≡ Ok met → found ≡ None
 none_first None met is = refl
 none_first (Some place) met is = absurd (cc (is))
 

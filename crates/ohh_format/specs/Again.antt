@@ -24,11 +24,11 @@ use Rattle.ohh_members.specs.declared.dialect.Dialect.TheVariants as dialects
 use Rattle.ohh_writing.specs.Actions.{has_known, posts}
 use Rattle.ohh_writing.specs.Moment.{moment_of}
 use Rattle.ohh_writing.specs.Seating.{numbers_spelled}
-use Rattle.first_fault.specs.Numbers.{kept_number}
+use Rattle.first_fault.specs.Numbers.{saturated}
 use Rattle.hand_records.specs.AllowedNotes.{non_default_seats}
 use Rattle.hand_records.specs.NoteTable.{texts_of}
 use Rattle.hand_records.specs.PlainHands.{PlainHand, plain_setup}
-use Rattle.hand_records.specs.SaidNotes.{SaidNotes, kept_label}
+use Rattle.hand_records.specs.SaidNotes.{SaidNotes, hand_name_noted}
 
 -- ---- moves
 
@@ -76,24 +76,24 @@ script_again dialect trace =
 
 -- an action of the format has the event: the board is dealt by a round instead, and hole cards that
 -- are all unknown are left out
-abbrev pub is_told : Said → Bool
-is_told (said.Hole seat slots) = has_known slots
-is_told (said.Board cards) = false
-is_told (said.Fold actor) = true
-is_told (said.Call actor stated) = true
-is_told (said.Raise actor amount) = true
-is_told (said.BringIn actor) = true
-is_told (said.Discard seat slots) = true
-is_told (said.Show seat cards) = true
-is_told (said.Muck seat) = true
+abbrev pub has_action : Said → Bool
+has_action (said.Hole seat slots) = has_known slots
+has_action (said.Board cards) = false
+has_action (said.Fold actor) = true
+has_action (said.Call actor stated) = true
+has_action (said.Raise actor amount) = true
+has_action (said.BringIn actor) = true
+has_action (said.Discard seat slots) = true
+has_action (said.Show seat cards) = true
+has_action (said.Muck seat) = true
 
 -- events with the numbers of their actions; the first has this number, and an event without an
 -- action has 0
 abbrev pub numbered_from : ℕ → List Said → List Numbered
 numbered_from n [] = []
 numbered_from n (event ∷ rest) =
-    if is_told event
-    then (kept_number n, event) ∷ numbered_from (n + 1) rest
+    if has_action event
+    then (saturated n, event) ∷ numbered_from (n + 1) rest
     else (0, event) ∷ numbered_from n rest
 
 -- ---- notes
@@ -108,7 +108,7 @@ notes_again place count notes =
           option_and_then (λ numbers. non_default_seats count (take count numbers))
           (numbers_spelled count notes.seats);
       seat_count = notes.seat_count;
-      hand = kept_label place notes.hand;
+      hand = hand_name_noted place notes.hand;
       texts = texts_of notes;
       year = option_map (λ moment. moment.day.year) (moment_of notes);
       month = option_map (λ moment. moment.day.month) (moment_of notes);

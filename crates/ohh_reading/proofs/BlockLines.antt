@@ -7,7 +7,7 @@ use Rattle.hand_records.specs.PlainHands.{PlainHand}
 use Rattle.ohh_members.specs.declared.dialect.Dialect.{Dialect}
 use Rattle.ohh_reading.specs.Begins.{block_lines, block_lines_from}
 use Rattle.ohh_reading.specs.Blocks.{blocks_from, blocks_of, is_blank, lines_of}
-use Rattle.ohh_reading.specs.Reading.{found_said, hands_said, numbered_hand, of_hand, past_hands, reading, told, tree_of}
+use Rattle.ohh_reading.specs.Reading.{found_said, hands_said, numbered_hand, of_hand, past_hands, reading, tree_of, with_paths}
 use Rattle.ohh_reading.specs.declared.fault.HandFaultKind.TheVariants as wrongness
 use Rattle.ohh_reading.specs.declared.fault.OhhHandFault.{OhhHandFault}
 
@@ -77,6 +77,6 @@ unfolding reading
 hands_have_lines dialect bytes = go (hands_said dialect (blocks_of bytes)) (hand_by_hand dialect 0 1 (blocks_of bytes))
   where
     go : (found : Result (List PlainHand × ℕ) OhhHandFault) → IfOk found (λ all. length all.0 ≡ length (blocks_of bytes))
-        → IfOk (told found) (λ hands. length hands ≡ length (block_lines bytes))
+        → IfOk (with_paths found) (λ hands. length hands ≡ length (block_lines bytes))
     go (Ok found) is = omega (arith, is, blocks_have_lines None 1 (lines_of bytes))
     go (Err fault) is = tt

@@ -79,13 +79,13 @@ spelled hand wrongness.Text = NoText hand
 spelled hand (wrongness.Member fault) = InHand hand (path_text fault.path) fault.what
 
 -- the records, or the fault with its path as text
-abbrev pub told : Result (List PlainHand × ℕ) OhhHandFault → Result (List PlainHand) Wrong
-told (Ok found) = Ok found.0
-told (Err fault) = Err (spelled fault.hand fault.what)
+abbrev pub with_paths : Result (List PlainHand × ℕ) OhhHandFault → Result (List PlainHand) Wrong
+with_paths (Ok found) = Ok found.0
+with_paths (Err fault) = Err (spelled fault.hand fault.what)
 
 -- the records in bytes, read in a dialect, or the first fault
 unfoldable pub reading : Dialect → List ℕ → Result (List PlainHand) Wrong
-reading dialect bytes = told (hands_said dialect (blocks_of bytes))
+reading dialect bytes = with_paths (hands_said dialect (blocks_of bytes))
 
 -- what is wrong, unless memory ran out
 abbrev pub wrong_of : OhhFault → Option Wrong

@@ -21,7 +21,7 @@ use Rattle.ohh_members.specs.declared.fault.Path.TheVariants as paths
 use Rattle.ohh_members.specs.declared.fault.MemberFaultKind.TheVariants as whats
 use Rattle.ohh_members.specs.declared.fault.MemberFault.{MemberFault}
 use Rattle.ohh_members.specs.Values.{cards_said, few_said, field, number_said, object_said, or_wrong, player_said, required, slots_said, text_said, wrong}
-use Rattle.ohh_rounds.specs.declared.post.ActionPlace.{ActionPlace}
+use Rattle.ohh_rounds.specs.declared.post.ActionLocation.{ActionLocation}
 use Rattle.ohh_rounds.specs.declared.post.PostKind.{PostKind}
 use Rattle.ohh_rounds.specs.declared.post.PostKind.TheVariants as kinds
 use Rattle.ohh_rounds.specs.NamedBlinds.{seat_count}
@@ -32,11 +32,11 @@ use Rattle.ohh_rounds.specs.Steps.{PlainActionEffect, PlainStep, Posted, Dealt, 
 use Rattle.ohh_rounds.specs.HandContext.{PlainHandContext}
 
 -- the path of a member of an action
-abbrev pub at_action : ActionPlace → ActionMember → Path
+abbrev pub at_action : ActionLocation → ActionMember → Path
 at_action place member = paths.Round place.round (rounds.Action place.action member)
 
 -- the word of an action: one of the supported words; hole cards are dealt in the first round only
-unfoldable pub word_said : ActionPlace → Data → Result Word MemberFault
+unfoldable pub word_said : ActionLocation → Data → Result Word MemberFault
 word_said place action = do
   text ← required (at_action place members.Word) action >>= text_said (at_action place members.Word)
   word ← or_wrong whats.UnsupportedAction (at_action place members.Word) (word_named text)
@@ -45,19 +45,19 @@ word_said place action = do
       else Ok word
 
 -- the seat of the action's player
-unfoldable pub seat_said : PlainHandContext → ActionPlace → Data → Result ℕ MemberFault
+unfoldable pub seat_said : PlainHandContext → ActionLocation → Data → Result ℕ MemberFault
 seat_said setting place action =
     required (at_action place members.PlayerId) action
     >>= player_said setting.ids (at_action place members.PlayerId)
 
 -- the action's amount, in chips
-unfoldable pub chips_said : ActionPlace → Data → Result ℕ MemberFault
+unfoldable pub chips_said : ActionLocation → Data → Result ℕ MemberFault
 chips_said place action =
     required (at_action place members.Amount) action
     >>= number_said 0 MOST_CHIPS (at_action place members.Amount)
 
 -- a post of some chips; it is early if it comes on the first street before any move
-unfoldable pub posted : PostKind → List PlainStep → ActionPlace → ℕ → Data
+unfoldable pub posted : PostKind → List PlainStep → ActionLocation → ℕ → Data
     → Result PlainActionEffect MemberFault
 posted kind earlier place seat action = do
   chips ← chips_said place action
@@ -74,7 +74,7 @@ listed_cards earlier path seat cards = do
       else wrong whats.WrongType path
 
 -- hole cards, or none if they are missing
-unfoldable pub dealt_cards : List PlainStep → ActionPlace → ℕ → Data
+unfoldable pub dealt_cards : List PlainStep → ActionLocation → ℕ → Data
     → Result PlainActionEffect MemberFault
 dealt_cards earlier place seat action = elim (field (at_action place members.Cards) action) [
   | None ↦ Ok (Dealt seat [])
@@ -88,18 +88,18 @@ raise_by dialects.Added chips = spelled.Added chips
 raise_by dialects.To chips = spelled.To chips
 
 -- a call that states the chips that it adds
-unfoldable pub called : ActionPlace → ℕ → Data → Result PlainActionEffect MemberFault
+unfoldable pub called : ActionLocation → ℕ → Data → Result PlainActionEffect MemberFault
 called place seat action =
     chips_said place action >>= λ chips. Ok (Happened (said.Call (Some seat) (Some chips)))
 
 -- a bet or a raise
-unfoldable pub raised : Dialect → ActionPlace → ℕ → Data → Result PlainActionEffect MemberFault
+unfoldable pub raised : Dialect → ActionLocation → ℕ → Data → Result PlainActionEffect MemberFault
 raised dialect place seat action =
     chips_said place action
     >>= λ chips. Ok (Happened (said.Raise (Some seat) (raise_by dialect chips)))
 
 -- a show of cards
-unfoldable pub shown : ActionPlace → ℕ → Data → Result PlainActionEffect MemberFault
+unfoldable pub shown : ActionLocation → ℕ → Data → Result PlainActionEffect MemberFault
 shown place seat action = do
   cards ← required (at_action place members.Cards) action
       >>= cards_said (at_action place members.Cards)
@@ -110,7 +110,7 @@ abbrev pub mucked : List PlainStep → ℕ → PlainActionEffect
 mucked earlier seat = if has_folded seat earlier then Passed else Happened (said.Muck seat)
 
 -- what a word means for a player
-unfoldable pub effect_said : PlainHandContext → List PlainStep → ActionPlace → ℕ → Data → Word
+unfoldable pub effect_said : PlainHandContext → List PlainStep → ActionLocation → ℕ → Data → Word
     → Result PlainActionEffect MemberFault
 effect_said setting earlier place seat action words.PostAnte =
     posted kinds.Ante earlier place seat action
@@ -155,7 +155,7 @@ effect_counted setting earlier path (Dealt seat slots) = Ok tt
 effect_counted setting earlier path Passed = Ok tt
 
 -- the members of an action after these steps
-unfoldable pub members_said : PlainHandContext → List PlainStep → ActionPlace → Data
+unfoldable pub members_said : PlainHandContext → List PlainStep → ActionLocation → Data
     → Result PlainActionEffect MemberFault
 members_said setting earlier place action = do
   word ← word_said place action
@@ -163,7 +163,7 @@ members_said setting earlier place action = do
   effect_said setting earlier place seat action word
 
 -- the members of an action that exceeds no limit
-abbrev pub counted_said : PlainHandContext → List PlainStep → ActionPlace → Data
+abbrev pub counted_said : PlainHandContext → List PlainStep → ActionLocation → Data
     → Result PlainActionEffect MemberFault
 counted_said setting earlier place action = do
   effect ← members_said setting earlier place action
@@ -171,7 +171,7 @@ counted_said setting earlier place action = do
   Ok effect
 
 -- an action after these steps
-unfoldable pub step_said : PlainHandContext → List PlainStep → ActionPlace → Data
+unfoldable pub step_said : PlainHandContext → List PlainStep → ActionLocation → Data
     → Result PlainStep MemberFault
 step_said setting earlier place value = do
   action ← object_said (at_action place members.Itself) value

@@ -8,7 +8,7 @@ pub mod AntesAndBlinds
 -- play made of them.
 pub mod Streets
 pub mod Steps
-pub mod Kept
+pub mod StoredSeats
 pub mod HandContext
 pub mod Actions
 pub mod Rounds

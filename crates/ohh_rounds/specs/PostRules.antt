@@ -4,7 +4,7 @@ use Rattle.std.specs.List.{list_all}
 use Rattle.chip_ledger.specs.Greatest.{greatest}
 use Rattle.chip_ledger.specs.Seat.{seats_of}
 use Rattle.first_fault.specs.Reading.{◌>>=◌}
-use Rattle.ohh_rounds.specs.declared.post.ActionPlace.{ActionPlace}
+use Rattle.ohh_rounds.specs.declared.post.ActionLocation.{ActionLocation}
 use Rattle.ohh_rounds.specs.declared.post.PostFault.{PostFault}
 use Rattle.ohh_rounds.specs.declared.post.PostFault.TheVariants as faults
 use Rattle.ohh_rounds.specs.declared.checking.PostFacts.{PostFacts}
@@ -84,7 +84,7 @@ is_breaking conditions.EvenAntes table posts before post = is_uneven_ante table 
 -- the place of the first of these posts that breaks a condition, given all posts and those before
 -- it
 abbrev pub first_breaking : PostRule → PlainNamedBlinds → List PlainPost → List PlainPost
-    → List PlainPost → Option ActionPlace
+    → List PlainPost → Option ActionLocation
 first_breaking condition table posts before [] = None
 first_breaking condition table posts before (post ∷ rest) =
     if is_breaking condition table posts before post
@@ -92,7 +92,7 @@ first_breaking condition table posts before (post ∷ rest) =
     else first_breaking condition table posts (before ++ post ∷ []) rest
 
 -- no post breaks the condition, or the first that does is named
-abbrev pub at_first : Option ActionPlace → Result ⊤ PostFault
+abbrev pub at_first : Option ActionLocation → Result ⊤ PostFault
 at_first None = Ok tt
 at_first (Some place) = Err (faults.At place)
 

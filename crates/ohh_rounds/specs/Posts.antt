@@ -5,7 +5,7 @@ use Rattle.std.specs.Option.{option_map_or}
 use Rattle.chip_ledger.specs.declared.numbers.Chips.{Chips}
 use Rattle.ohh_rounds.specs.declared.post.PostKind.{PostKind}
 use Rattle.ohh_rounds.specs.declared.post.PostKind.TheVariants as kinds
-use Rattle.ohh_rounds.specs.declared.post.ActionPlace.{ActionPlace}
+use Rattle.ohh_rounds.specs.declared.post.ActionLocation.{ActionLocation}
 use Rattle.ohh_rounds.specs.declared.post.Post.{Post}
 use Rattle.ohh_rounds.specs.declared.posts_so_far.PostsSoFar.{PostsSoFar}
 
@@ -16,7 +16,7 @@ pub record PlainPost : Type 0 where
   pub seat : ℕ
   pub amount : ℕ
   pub early : Bool
-  pub place : ActionPlace
+  pub place : ActionLocation
 
 -- a post, as the definitions see it
 abbrev pub plain_post : Post → PlainPost

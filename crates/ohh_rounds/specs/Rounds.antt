@@ -101,9 +101,9 @@ rounds_listed ohh = do
   if length items == 0 then wrong whats.BadStreet paths.Rounds else Ok items
 
 -- the steps of a list of rounds
-abbrev pub each_told : PlainHandContext → List Data → Result (List PlainStep) MemberFault
-each_told setting items = added_from (round_said setting) (None, []) 0 items >>= λ found. Ok found.1
+abbrev pub all_steps : PlainHandContext → List Data → Result (List PlainStep) MemberFault
+all_steps setting items = added_from (round_said setting) (None, []) 0 items >>= λ found. Ok found.1
 
 -- the steps of the rounds
 unfoldable pub steps_said : PlainHandContext → Data → Result (List PlainStep) MemberFault
-steps_said setting ohh = rounds_listed ohh >>= each_told setting
+steps_said setting ohh = rounds_listed ohh >>= all_steps setting

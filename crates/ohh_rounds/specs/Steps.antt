@@ -12,7 +12,7 @@ use Rattle.ohh_rounds.specs.Posts.{PlainPost, plain_post}
 use Rattle.ohh_rounds.specs.declared.step.ActionEffect.{ActionEffect}
 use Rattle.ohh_rounds.specs.declared.step.ActionEffect.TheVariants as effects
 use Rattle.ohh_rounds.specs.declared.step.RoundStep.{RoundStep}
-use Rattle.first_fault.specs.Numbers.{kept_number}
+use Rattle.first_fault.specs.Numbers.{saturated}
 
 -- what was done: a post, hole cards dealt to a seat, an event of the script, or nothing that counts
 pub data PlainActionEffect : Type 0 where
@@ -43,7 +43,7 @@ is_action step = nat_lt 0 step.number
 
 -- the number of the action after these steps
 abbrev pub next_number : List PlainStep → ℕ
-next_number steps = kept_number (count_by is_action steps + 1)
+next_number steps = saturated (count_by is_action steps + 1)
 
 -- a move was made
 abbrev pub is_move_effect : PlainActionEffect → Bool

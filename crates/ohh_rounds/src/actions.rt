@@ -10,7 +10,7 @@ ghost use Rattle.ohh_rounds.specs.HandContext.{plain_setting};
 ghost use Rattle.ohh_rounds.specs.Posts.{plain_post};
 ghost use Rattle.ohh_rounds.specs.Steps.{Dealt, Happened, HasRoom, IsWithin, LeavesFew, Posted, dealt_to, plain_effect, plain_step};
 
-use crate::post::{ActionPlace, Post, PostKind};
+use crate::post::{ActionLocation, Post, PostKind};
 use crate::rounds_so_far::RoundsSoFar;
 use crate::step::{ActionEffect, RoundStep};
 use card_set::SlotRow;
@@ -29,31 +29,31 @@ use serde_json::Value;
 /// Reads an action after the steps before it, and checks the limits.
 #[tactic(auto, unfolding(crate::specs::Actions::step_said, crate::specs::Actions::members_said))]
 pub fn read_step(
-    told: &RoundsSoFar,
-    place: ActionPlace,
+    seen: &RoundsSoFar,
+    place: ActionLocation,
     value: &Value,
 ) -> Result<RoundStep, ReadError<MemberFault>>
-    ensures said { Gives plain_step result (step_said (plain_setting told.now.setting)
-        (map plain_step told.now.steps.items) place (view value.now)) }
-    ensures few { IfOk result (λ step. LeavesFew (map plain_step told.now.steps.items)
+    ensures said { Gives plain_step result (step_said (plain_setting seen.now.setting)
+        (map plain_step seen.now.steps.items) place (view value.now)) }
+    ensures few { IfOk result (λ step. LeavesFew (map plain_step seen.now.steps.items)
         (plain_effect step.effect)) }
-    ensures within { IfOk result (λ step. IsWithin told.now.setting.table.stacks.seats
-        told.now.setting.file_moves (map plain_step told.now.steps.items)
+    ensures within { IfOk result (λ step. IsWithin seen.now.setting.table.stacks.seats
+        seen.now.setting.file_moves (map plain_step seen.now.steps.items)
         (plain_effect step.effect)) }
 {
     let path = path_of(place, ActionMember::Itself);
     let action = read_object(value, path)?;
     let word = read_word(place, action)?;
-    let seat = read_seat(told, place, action)?;
-    let effect = read_effect(told, place, seat, action, word)?;
-    count_effect(told, path, effect)?;
-    let number = told.next;
+    let seat = read_seat(seen, place, action)?;
+    let effect = read_effect(seen, place, seat, action, word)?;
+    count_effect(seen, path, effect)?;
+    let number = seen.next;
     Ok(RoundStep { number, effect })
 }
 
 // The word of an action.
 #[tactic(auto, unfolding(crate::specs::Actions::word_said))]
-fn read_word(place: ActionPlace, action: &Value) -> Result<Word, ReadError<MemberFault>>
+fn read_word(place: ActionLocation, action: &Value) -> Result<Word, ReadError<MemberFault>>
     ensures { Gives (λ word. word) result (word_said place (view action.now)) }
 {
     let path = path_of(place, ActionMember::Word);
@@ -70,64 +70,64 @@ fn read_word(place: ActionPlace, action: &Value) -> Result<Word, ReadError<Membe
 // The seat of the action's player.
 #[tactic(auto, unfolding(crate::specs::Actions::seat_said))]
 fn read_seat(
-    told: &RoundsSoFar,
-    place: ActionPlace,
+    seen: &RoundsSoFar,
+    place: ActionLocation,
     action: &Value,
 ) -> Result<Seat, ReadError<MemberFault>>
     ensures { Gives (λ seat. seat.number) result
-        (seat_said (plain_setting told.now.setting) place (view action.now)) }
+        (seat_said (plain_setting seen.now.setting) place (view action.now)) }
 {
     let path = path_of(place, ActionMember::PlayerId);
-    read_player(required(action, path)?, told.setting.ids, path)
+    read_player(required(action, path)?, seen.setting.ids, path)
 }
 
 // What a word means for a player.
 #[tactic(auto, unfolding(crate::specs::Actions::effect_said))]
 fn read_effect(
-    told: &RoundsSoFar,
-    place: ActionPlace,
+    seen: &RoundsSoFar,
+    place: ActionLocation,
     seat: Seat,
     action: &Value,
     word: Word,
 ) -> Result<ActionEffect, ReadError<MemberFault>>
-    ensures said { Gives plain_effect result (effect_said (plain_setting told.now.setting)
-        (map plain_step told.now.steps.items) place seat.number (view action.now) word) }
-    ensures few { IfOk result (λ effect. LeavesFew (map plain_step told.now.steps.items)
+    ensures said { Gives plain_effect result (effect_said (plain_setting seen.now.setting)
+        (map plain_step seen.now.steps.items) place seat.number (view action.now) word) }
+    ensures few { IfOk result (λ effect. LeavesFew (map plain_step seen.now.steps.items)
         (plain_effect effect)) }
 {
     let actor = Some(seat);
     let effect = match word {
         Word::PostAnte => ActionEffect::Posted(read_post(
             PostKind::Ante,
-            told,
+            seen,
             place,
             seat,
             action,
         )?),
         Word::PostSmallBlind => ActionEffect::Posted(read_post(
             PostKind::SmallBlind,
-            told,
+            seen,
             place,
             seat,
             action,
         )?),
         Word::PostBigBlind => ActionEffect::Posted(read_post(
             PostKind::BigBlind,
-            told,
+            seen,
             place,
             seat,
             action,
         )?),
         Word::Straddle => ActionEffect::Posted(read_post(
             PostKind::Straddle,
-            told,
+            seen,
             place,
             seat,
             action,
         )?),
         Word::DealtCards => ActionEffect::Dealt {
             seat,
-            cards: read_dealt(told, place, seat, action)?,
+            cards: read_dealt(seen, place, seat, action)?,
         },
         Word::Fold => ActionEffect::Happened(Kind::Fold { actor }),
         Word::Check => ActionEffect::Happened(Kind::Call {
@@ -137,13 +137,13 @@ fn read_effect(
         Word::Call => ActionEffect::Happened(read_call(place, seat, action)?),
         Word::Bet => ActionEffect::Happened(read_raise(Dialect::Added, place, seat, action)?),
         Word::Raise => ActionEffect::Happened(read_raise(
-            told.setting.dialect,
+            seen.setting.dialect,
             place,
             seat,
             action,
         )?),
         Word::ShowsCards => ActionEffect::Happened(read_show(place, seat, action)?),
-        Word::MucksCards => muck(told, seat),
+        Word::MucksCards => muck(seen, seat),
         Word::SitsDown | Word::StandsUp => ActionEffect::Passed,
     };
     Ok(effect)
@@ -153,16 +153,16 @@ fn read_effect(
 #[tactic(auto, unfolding(crate::specs::Actions::posted))]
 fn read_post(
     kind: PostKind,
-    told: &RoundsSoFar,
-    place: ActionPlace,
+    seen: &RoundsSoFar,
+    place: ActionLocation,
     seat: Seat,
     action: &Value,
 ) -> Result<Post, ReadError<MemberFault>>
     ensures { Gives (λ post. Posted (plain_post post)) result
-        (posted kind (map plain_step told.now.steps.items) place seat.number (view action.now)) }
+        (posted kind (map plain_step seen.now.steps.items) place seat.number (view action.now)) }
 {
     let amount = read_chips(place, action)?;
-    let early = place.round == 0 && told.moves == 0;
+    let early = place.round == 0 && seen.moves == 0;
     Ok(Post {
         kind,
         seat,
@@ -175,18 +175,18 @@ fn read_post(
 // Hole cards, or none if they are missing.
 #[tactic(auto, unfolding(crate::specs::Actions::dealt_cards, crate::specs::Actions::listed_cards, ohh_members::specs::Values::slots_said))]
 fn read_dealt(
-    told: &RoundsSoFar,
-    place: ActionPlace,
+    seen: &RoundsSoFar,
+    place: ActionLocation,
     seat: Seat,
     action: &Value,
 ) -> Result<SlotRow, ReadError<MemberFault>>
     ensures said { Gives (λ cards. Dealt seat.number (slots_of cards)) result
-        (dealt_cards (map plain_step told.now.steps.items) place seat.number (view action.now)) }
+        (dealt_cards (map plain_step seen.now.steps.items) place seat.number (view action.now)) }
     ensures few { IfOk result (λ cards. length (dealt_to seat.number
-        (map plain_step told.now.steps.items)) + length (slots_of cards) ≤ 7) }
+        (map plain_step seen.now.steps.items)) + length (slots_of cards) ≤ 7) }
 {
     let path = path_of(place, ActionMember::Cards);
-    let dealt = told.cards_dealt(seat);
+    let dealt = seen.cards_dealt(seat);
     let Some(listed) = field(action, path) else {
         return Ok(SlotRow::new());
     };
@@ -200,7 +200,7 @@ fn read_dealt(
 
 // A call that states the chips that it adds.
 #[tactic(auto, unfolding(crate::specs::Actions::called))]
-fn read_call(place: ActionPlace, seat: Seat, action: &Value) -> Result<Kind, ReadError<MemberFault>>
+fn read_call(place: ActionLocation, seat: Seat, action: &Value) -> Result<Kind, ReadError<MemberFault>>
     ensures { Gives (λ kind. Happened (kind_said kind)) result
         (called place seat.number (view action.now)) }
 {
@@ -215,7 +215,7 @@ fn read_call(place: ActionPlace, seat: Seat, action: &Value) -> Result<Kind, Rea
 #[tactic(auto, unfolding(crate::specs::Actions::raised))]
 fn read_raise(
     dialect: Dialect,
-    place: ActionPlace,
+    place: ActionLocation,
     seat: Seat,
     action: &Value,
 ) -> Result<Kind, ReadError<MemberFault>>
@@ -231,7 +231,7 @@ fn read_raise(
 
 // The amount of an action.
 #[tactic(auto, unfolding(crate::specs::Actions::chips_said))]
-fn read_chips(place: ActionPlace, action: &Value) -> Result<Chips, ReadError<MemberFault>>
+fn read_chips(place: ActionLocation, action: &Value) -> Result<Chips, ReadError<MemberFault>>
     ensures { Gives (λ chips. chips.number) result (chips_said place (view action.now)) }
 {
     let path = path_of(place, ActionMember::Amount);
@@ -251,7 +251,7 @@ fn raise_of(dialect: Dialect, amount: Chips) -> Spelled
 
 // A show of cards.
 #[tactic(auto, unfolding(crate::specs::Actions::shown))]
-fn read_show(place: ActionPlace, seat: Seat, action: &Value) -> Result<Kind, ReadError<MemberFault>>
+fn read_show(place: ActionLocation, seat: Seat, action: &Value) -> Result<Kind, ReadError<MemberFault>>
     ensures { Gives (λ kind. Happened (kind_said kind)) result
         (shown place seat.number (view action.now)) }
 {
@@ -261,7 +261,7 @@ fn read_show(place: ActionPlace, seat: Seat, action: &Value) -> Result<Kind, Rea
 }
 
 /// The path of a member of an action.
-pub fn path_of(place: ActionPlace, member: ActionMember) -> Path
+pub fn path_of(place: ActionLocation, member: ActionMember) -> Path
     ensures { result ≡ at_action place member }
 {
     Path::Round {
@@ -274,11 +274,11 @@ pub fn path_of(place: ActionPlace, member: ActionMember) -> Path
 }
 
 // A muck, which is ignored if the player folded before.
-fn muck(told: &RoundsSoFar, seat: Seat) -> ActionEffect
-    ensures said { plain_effect result ≡ mucked (map plain_step told.now.steps.items) seat.number }
-    ensures few { LeavesFew (map plain_step told.now.steps.items) (plain_effect result) }
+fn muck(seen: &RoundsSoFar, seat: Seat) -> ActionEffect
+    ensures said { plain_effect result ≡ mucked (map plain_step seen.now.steps.items) seat.number }
+    ensures few { LeavesFew (map plain_step seen.now.steps.items) (plain_effect result) }
 {
-    if told.has_folded(seat) {
+    if seen.has_folded(seat) {
         ActionEffect::Passed
     } else {
         ActionEffect::Happened(Kind::Muck { seat })
@@ -287,40 +287,40 @@ fn muck(told: &RoundsSoFar, seat: Seat) -> ActionEffect
 
 // Checks that the action exceeds no limit.
 fn count_effect(
-    told: &RoundsSoFar,
+    seen: &RoundsSoFar,
     path: Path,
     effect: ActionEffect,
 ) -> Result<(), ReadError<MemberFault>>
-    ensures said { Gives (λ x. x) result (effect_counted (plain_setting told.now.setting)
-        (map plain_step told.now.steps.items) path (plain_effect effect)) }
-    ensures within { IfOk result (λ x. IsWithin told.now.setting.table.stacks.seats
-        told.now.setting.file_moves (map plain_step told.now.steps.items) (plain_effect effect)) }
+    ensures said { Gives (λ x. x) result (effect_counted (plain_setting seen.now.setting)
+        (map plain_step seen.now.steps.items) path (plain_effect effect)) }
+    ensures within { IfOk result (λ x. IsWithin seen.now.setting.table.stacks.seats
+        seen.now.setting.file_moves (map plain_step seen.now.steps.items) (plain_effect effect)) }
 {
     match effect {
-        ActionEffect::Happened(kind) => count_event(told, path, kind),
+        ActionEffect::Happened(kind) => count_event(seen, path, kind),
         ActionEffect::Posted(_) | ActionEffect::Dealt { .. } | ActionEffect::Passed => Ok(()),
     }
 }
 
 /// Checks that an event exceeds no limit.
 #[tactic(auto, unfolding(crate::specs::Actions::event_counted))]
-pub fn count_event(told: &RoundsSoFar, path: Path, kind: Kind) -> Result<(), ReadError<MemberFault>>
-    ensures said { Gives (λ x. x) result (event_counted (plain_setting told.now.setting)
-        (map plain_step told.now.steps.items) path (kind_said kind)) }
-    ensures room { IfOk result (λ x. HasRoom told.now.setting.table.stacks.seats
-        told.now.setting.file_moves (is_move (kind_said kind))
-        (map plain_step told.now.steps.items)) }
+pub fn count_event(seen: &RoundsSoFar, path: Path, kind: Kind) -> Result<(), ReadError<MemberFault>>
+    ensures said { Gives (λ x. x) result (event_counted (plain_setting seen.now.setting)
+        (map plain_step seen.now.steps.items) path (kind_said kind)) }
+    ensures room { IfOk result (λ x. HasRoom seen.now.setting.table.stacks.seats
+        seen.now.setting.file_moves (is_move (kind_said kind))
+        (map plain_step seen.now.steps.items)) }
 {
     if kind.is_move() {
-        if told.moves >= MOST_MOVES {
+        if seen.moves >= MOST_MOVES {
             return Err(too_many(Quantity::Moves, path));
         }
-        if told.setting.file_moves + told.moves >= MOST_FILE_MOVES {
+        if seen.setting.file_moves + seen.moves >= MOST_FILE_MOVES {
             return Err(too_many(Quantity::FileMoves, path));
         }
         Ok(())
     } else {
-        if usize::from(told.setting.table.stacks.seats) + told.other_events >= MOST_OTHER_EVENTS {
+        if usize::from(seen.setting.table.stacks.seats) + seen.other_events >= MOST_OTHER_EVENTS {
             return Err(too_many(Quantity::OtherEvents, path));
         }
         Ok(())

@@ -2,7 +2,7 @@
 ghost use Rattle.std.specs.Prelude.{◌≡◌, ◌≤◌, ◌+◌, ◌∷◌, ◌++◌, [], Some, map, option_map, true};
 ghost use Rattle.std.specs.Option.{option_or};
 ghost use Rattle.card_set.specs.Row.{slots_of};
-ghost use Rattle.ohh_rounds.specs.Kept.{AreTold};
+ghost use Rattle.ohh_rounds.specs.StoredSeats.{AreSeatsAfter};
 ghost use Rattle.play_event.specs.Said.{kind_said};
 ghost use Rattle.ohh_rounds.specs.Steps.{LeavesFew, plain_effect, plain_step};
 ghost use Rattle.ohh_rounds.specs.Steps as round_steps;
@@ -19,9 +19,9 @@ pub fn seats_after(
     step: RoundStep,
     steps: &[RoundStep],
 ) -> [SeatSoFar; 10]
-    requires told { AreTold (map plain_step steps.now) seats }
+    requires seen { AreSeatsAfter (map plain_step steps.now) seats }
     requires few { LeavesFew (map plain_step steps.now) (plain_effect step.effect) }
-    ensures { AreTold (map plain_step steps.now ++ plain_step step ∷ []) result }
+    ensures { AreSeatsAfter (map plain_step steps.now ++ plain_step step ∷ []) result }
 {
     match step.effect {
         ActionEffect::Posted(_) => seats,
@@ -43,16 +43,16 @@ pub fn seats_after(
 }
 
 // The seat after it was dealt more cards, in the step with this number.
-fn with_deal(told: SeatSoFar, cards: SlotRow, number: u32) -> SeatSoFar
-    requires { told.cards.len + cards.len ≤ 7 }
-    ensures folded { result.folded ≡ told.folded }
-    ensures cards { slots_of result.cards ≡ slots_of told.cards ++ slots_of cards }
-    ensures first_deal { result.first_deal ≡ option_or told.first_deal (Some number) }
+fn with_deal(seen: SeatSoFar, cards: SlotRow, number: u32) -> SeatSoFar
+    requires { seen.cards.len + cards.len ≤ 7 }
+    ensures folded { result.folded ≡ seen.folded }
+    ensures cards { slots_of result.cards ≡ slots_of seen.cards ++ slots_of cards }
+    ensures first_deal { result.first_deal ≡ option_or seen.first_deal (Some number) }
 {
     SeatSoFar {
-        folded: told.folded,
-        cards: joined(told.cards, cards),
-        first_deal: first_of(told.first_deal, number),
+        folded: seen.folded,
+        cards: joined(seen.cards, cards),
+        first_deal: first_of(seen.first_deal, number),
     }
 }
 
@@ -89,15 +89,15 @@ fn folder(kind: Kind) -> Option<Seat>
 }
 
 // The seat after it folded.
-fn with_fold(told: SeatSoFar) -> SeatSoFar
+fn with_fold(seen: SeatSoFar) -> SeatSoFar
     ensures { result ≡ record {
       folded = true;
-      cards = told.cards;
-      first_deal = told.first_deal;
+      cards = seen.cards;
+      first_deal = seen.first_deal;
     } }
 {
     SeatSoFar {
         folded: true,
-        ..told
+        ..seen
     }
 }

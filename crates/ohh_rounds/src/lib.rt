@@ -24,4 +24,4 @@ pub use checking::check_posts;
 pub use hand_context::HandContext;
 pub use named_blinds::NamedBlinds;
 pub use play::{RoundsPlay, read_rounds};
-pub use post::{ActionPlace, Post, PostFault, PostKind};
+pub use post::{ActionLocation, Post, PostFault, PostKind};

@@ -22,7 +22,7 @@ use crate::checking::check_posts;
 use crate::hand_context::HandContext;
 use crate::named_blinds::NamedBlinds;
 use crate::post::{Post, PostFault};
-use crate::rounds::read_told;
+use crate::rounds::read_all_rounds;
 use crate::rounds_so_far::RoundsSoFar;
 use crate::step::{ActionEffect, RoundStep};
 use card_set::{Memory, Slot, SlotRow, TryPush};
@@ -61,13 +61,13 @@ pub fn read_rounds(
         ≡ setting.now.file_moves + count_by is_move (map said_of play.script)) }
     ensures few { IfOk result (λ play. play.file_moves ≤ MOST_FILE_MOVES) }
 {
-    let told = read_told(alloc, setting, ohh)?;
-    let stakes = read_stakes(alloc, &setting.table, told.steps.as_slice())?;
-    let script = script_of(alloc, &told)?;
+    let seen = read_all_rounds(alloc, setting, ohh)?;
+    let stakes = read_stakes(alloc, &setting.table, seen.steps.as_slice())?;
+    let script = script_of(alloc, &seen)?;
     Ok(RoundsPlay {
         stakes,
         script,
-        file_moves: setting.file_moves + told.moves,
+        file_moves: setting.file_moves + seen.moves,
     })
 }
 
@@ -135,37 +135,37 @@ fn check(table: &NamedBlinds, posts: &[Post]) -> Result<(), ReadError<MemberFaul
 
 // The script.
 #[tactic(auto, unfolding(crate::specs::Play::script_said))]
-fn script_of(alloc: Global, told: &RoundsSoFar) -> Result<Script, Memory>
+fn script_of(alloc: Global, seen: &RoundsSoFar) -> Result<Script, Memory>
     ensures script { IfOk result (λ script. map numbered script
-        ≡ script_said told.now.setting.table.stacks.seats told.now.setting.hole_cards
-        (map plain_step told.now.steps.items)) }
+        ≡ script_said seen.now.setting.table.stacks.seats seen.now.setting.hole_cards
+        (map plain_step seen.now.steps.items)) }
 {
-    let mut script = hole_deals(alloc, told)?;
-    push_events(&mut script, told.steps.as_slice())?;
+    let mut script = hole_deals(alloc, seen)?;
+    push_events(&mut script, seen.steps.as_slice())?;
     Ok(script)
 }
 
 // The hole deals of all seats.
-fn hole_deals(alloc: Global, told: &RoundsSoFar) -> Result<Script, Memory>
+fn hole_deals(alloc: Global, seen: &RoundsSoFar) -> Result<Script, Memory>
     ensures { IfOk result (λ script. map numbered script
         ≡ map
-        (hand_play.hole_deal told.now.setting.hole_cards (map plain_step told.now.steps.items))
-        (seats_of told.now.setting.table.stacks.seats)) }
+        (hand_play.hole_deal seen.now.setting.hole_cards (map plain_step seen.now.steps.items))
+        (seats_of seen.now.setting.table.stacks.seats)) }
 {
     let mut script = Script::new(alloc);
-    for index in 0..told.setting.table.stacks.seats {
-        script.push(hole_deal(told, Seat { number: index + 1 }))?;
+    for index in 0..seen.setting.table.stacks.seats {
+        script.push(hole_deal(seen, Seat { number: index + 1 }))?;
     }
     Ok(script)
 }
 
 // The deal of a seat's hole cards.
-fn hole_deal(told: &RoundsSoFar, seat: Seat) -> Event
-    ensures { numbered result ≡ hand_play.hole_deal told.now.setting.hole_cards
-        (map plain_step told.now.steps.items) seat.number }
+fn hole_deal(seen: &RoundsSoFar, seat: Seat) -> Event
+    ensures { numbered result ≡ hand_play.hole_deal seen.now.setting.hole_cards
+        (map plain_step seen.now.steps.items) seat.number }
 {
-    let kept = told.seat(seat);
-    let cards = filled(kept.cards, told.setting.hole_cards);
+    let kept = seen.seat(seat);
+    let cards = filled(kept.cards, seen.setting.hole_cards);
     let at = match kept.first_deal {
         Some(number) => number,
         None => 0,

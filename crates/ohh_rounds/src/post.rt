@@ -13,7 +13,7 @@ pub enum PostKind {
 
 /// Where an action is: the index of its round, and its index in that round, both from 0.
 #[derive(Clone, Copy, Debug, PartialEq, Eq)]
-pub struct ActionPlace {
+pub struct ActionLocation {
     pub round: u64,
     pub action: u64,
 }
@@ -26,7 +26,7 @@ pub struct Post {
     pub amount: Chips,
     /// Whether it is on the first street, and no move comes before it.
     pub early: bool,
-    pub place: ActionPlace,
+    pub place: ActionLocation,
 }
 
 /// What is wrong with the posts of a hand.
@@ -35,5 +35,5 @@ pub enum PostFault {
     /// The small blind or the big blind is missing.
     MissingBlind,
     /// The post at this action is wrong.
-    At(ActionPlace),
+    At(ActionLocation),
 }

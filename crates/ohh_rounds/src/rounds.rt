@@ -9,7 +9,7 @@ ghost use Rattle.ohh_rounds.specs.Steps.{plain_step};
 
 use crate::actions::{count_event, read_step};
 use crate::hand_context::HandContext;
-use crate::post::ActionPlace;
+use crate::post::ActionLocation;
 use crate::rounds_so_far::RoundsSoFar;
 use crate::step::{ActionEffect, RoundStep};
 use crate::street::{has_board_cards, street_after};
@@ -26,23 +26,23 @@ use std::alloc::Global;
 
 /// The steps of the rounds of the object.
 #[tactic(auto, unfolding(crate::specs::Rounds::steps_said))]
-pub fn read_told<'a>(
+pub fn read_all_rounds<'a>(
     alloc: Global,
     setting: &HandContext<'a>,
     ohh: &Value,
 ) -> Result<RoundsSoFar<'a>, ReadError<MemberFault>>
-    ensures said { Gives (λ told. map plain_step told.steps.items) result
+    ensures said { Gives (λ seen. map plain_step seen.steps.items) result
         (steps_said (plain_setting setting.now) (view ohh.now)) }
-    ensures setting { IfOk result (λ told. told.setting ≡ setting.now) }
+    ensures setting { IfOk result (λ seen. seen.setting ≡ setting.now) }
 {
     let values = read_listed(ohh)?;
-    let mut told = RoundsSoFar::none(alloc, setting);
+    let mut seen = RoundsSoFar::none(alloc, setting);
     let mut last = None;
     for (index, value) in values.iter().enumerate() {
-        let street = read_round(&mut told, last, index as u64, value)?;
+        let street = read_round(&mut seen, last, index as u64, value)?;
         last = Some(street);
     }
-    Ok(told)
+    Ok(seen)
 }
 
 // The list of rounds: at least one.
@@ -60,21 +60,21 @@ fn read_listed(ohh: &Value) -> Result<&[Value], ReadError<MemberFault>>
 // Reads one more round.
 #[tactic(auto, unfolding(crate::specs::Rounds::round_said, crate::specs::Rounds::opening_said))]
 fn read_round(
-    told: &mut RoundsSoFar,
+    seen: &mut RoundsSoFar,
     last: Option<StreetName>,
     index: u64,
     value: &Value,
 ) -> Result<StreetName, ReadError<MemberFault>>
-    ensures said { Gives (λ street. (Some street, map plain_step told.new.steps.items)) result
-        (round_said (plain_setting told.old.setting)
-        (last, map plain_step told.old.steps.items) index (view value.now)) }
-    ensures setting { told.new.setting ≡ told.old.setting }
+    ensures said { Gives (λ street. (Some street, map plain_step seen.new.steps.items)) result
+        (round_said (plain_setting seen.old.setting)
+        (last, map plain_step seen.old.steps.items) index (view value.now)) }
+    ensures setting { seen.new.setting ≡ seen.old.setting }
 {
     let round = read_object(value, path_of(index, RoundMember::Itself))?;
     let street = read_street(last, index, round)?;
     let cards = read_board(street, index, round)?;
-    deal_board(told, index, cards)?;
-    read_actions(told, index, round)?;
+    deal_board(seen, index, cards)?;
+    read_actions(seen, index, round)?;
     Ok(street)
 }
 
@@ -130,21 +130,21 @@ fn read_no_cards(cards: &Value, path: Path) -> Result<CardRow, ReadError<MemberF
 // Adds a deal to the board, if there are cards.
 #[tactic(auto, unfolding(crate::specs::Rounds::board_dealt))]
 fn deal_board(
-    told: &mut RoundsSoFar,
+    seen: &mut RoundsSoFar,
     index: u64,
     cards: CardRow,
 ) -> Result<(), ReadError<MemberFault>>
-    ensures said { Gives (λ x. map plain_step told.new.steps.items) result
-        (board_dealt (plain_setting told.old.setting)
-        (map plain_step told.old.steps.items) index (cards_of cards)) }
-    ensures setting { told.new.setting ≡ told.old.setting }
+    ensures said { Gives (λ x. map plain_step seen.new.steps.items) result
+        (board_dealt (plain_setting seen.old.setting)
+        (map plain_step seen.old.steps.items) index (cards_of cards)) }
+    ensures setting { seen.new.setting ≡ seen.old.setting }
 {
     if cards.as_slice().is_empty() {
         return Ok(());
     }
     let kind = Kind::Board { cards };
-    count_event(told, path_of(index, RoundMember::Cards), kind)?;
-    told.push(RoundStep {
+    count_event(seen, path_of(index, RoundMember::Cards), kind)?;
+    seen.push(RoundStep {
         number: 0,
         effect: ActionEffect::Happened(kind),
     })?;
@@ -160,24 +160,24 @@ fn path_of(index: u64, member: RoundMember) -> Path
 
 // Reads the actions that a round lists.
 fn read_actions(
-    told: &mut RoundsSoFar,
+    seen: &mut RoundsSoFar,
     index: u64,
     round: &Value,
 ) -> Result<(), ReadError<MemberFault>>
-    ensures said { Gives (λ x. map plain_step told.new.steps.items) result
-        (actions_said (plain_setting told.old.setting) index
-        (map plain_step told.old.steps.items) (view round.now)) }
-    ensures setting { told.new.setting ≡ told.old.setting }
+    ensures said { Gives (λ x. map plain_step seen.new.steps.items) result
+        (actions_said (plain_setting seen.old.setting) index
+        (map plain_step seen.old.steps.items) (view round.now)) }
+    ensures setting { seen.new.setting ≡ seen.old.setting }
 {
     let path = path_of(index, RoundMember::Actions);
     let values = read_list(required(round, path)?, path)?;
     for (action, value) in values.iter().enumerate() {
-        let place = ActionPlace {
+        let place = ActionLocation {
             round: index,
             action: action as u64,
         };
-        let step = read_step(told, place, value)?;
-        told.push(step)?;
+        let step = read_step(seen, place, value)?;
+        seen.push(step)?;
     }
     Ok(())
 }

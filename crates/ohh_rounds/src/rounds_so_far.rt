@@ -2,7 +2,7 @@
 ghost use Rattle.std.specs.Prelude.{◌≡◌, ◌≤◌, ◌+◌, length, map};
 ghost use Rattle.play_event.specs.declared.hand_limits.TheConstants.{MOST_MOVES, MOST_OTHER_EVENTS};
 ghost use Rattle.first_fault.specs.declared.limits.TheConstants.{MOST_FILE_MOVES};
-ghost use Rattle.ohh_rounds.specs.Kept.{AreTold, IsToldOf};
+ghost use Rattle.ohh_rounds.specs.StoredSeats.{AreSeatsAfter, IsSeatAfter};
 ghost use Rattle.ohh_rounds.specs.Steps.{next_number, moves_in, others_in, plain_step};
 
 use crate::cards::seats_after;
@@ -28,7 +28,7 @@ pub struct RoundsSoFar<'a> {
     pub ghost next_is: { next ≡ next_number (map plain_step steps.items) },
     pub ghost moves_are: { moves ≡ moves_in (map plain_step steps.items) },
     pub ghost others_are: { other_events ≡ others_in (map plain_step steps.items) },
-    pub ghost seats_are: { AreTold (map plain_step steps.items) seats },
+    pub ghost seats_are: { AreSeatsAfter (map plain_step steps.items) seats },
     pub ghost few_moves: { moves ≤ MOST_MOVES },
     pub ghost few_file_moves: { setting.file_moves + moves ≤ MOST_FILE_MOVES },
     pub ghost few_others: { setting.table.stacks.seats + other_events ≤ MOST_OTHER_EVENTS },
@@ -71,13 +71,13 @@ impl<'a> RoundsSoFar<'a> {
             ≡ length (dealt_to seat.number (map plain_step self.now.steps.items)) }
         ensures few { result ≤ 7 }
     {
-        let told = self.seat(seat);
-        told.cards.as_slice().len()
+        let seen = self.seat(seat);
+        seen.cards.as_slice().len()
     }
 
     /// What is known of a seat.
     pub fn seat(&self, seat: Seat) -> SeatSoFar
-        ensures { IsToldOf seat.number (map plain_step self.now.steps.items) result }
+        ensures { IsSeatAfter seat.number (map plain_step self.now.steps.items) result }
     {
         self.seats[seat.number as usize - 1]
     }

@@ -8,7 +8,7 @@ use crate::fault::ActionFault;
 use crate::words::is_word;
 use card_set::{CardRow, SlotRow, read_slots as read_row};
 use chip_ledger::{MOST_CHIPS, PlayerCount, Seat};
-use first_fault::{are_digits, place_of, read_digits};
+use first_fault::{are_digits, position_of, read_digits};
 
 /// The seat of the hand that a word names.
 #[tactic(auto, unfolding(crate::specs::Action::seat_said, crate::specs::Action::seat_named))]
@@ -59,7 +59,7 @@ pub fn read_amount(word: &[u8]) -> Result<u64, ActionFault>
 fn is_fraction(word: &[u8]) -> bool
     ensures { result ≡ has_fraction word.now }
 {
-    let len = place_of(word, b'.');
+    let len = position_of(word, b'.');
     if len == word.len() {
         return false;
     }

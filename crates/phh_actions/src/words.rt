@@ -2,13 +2,13 @@
 ghost use Rattle.std.specs.Prelude.{◌≡◌, bytes_eq};
 ghost use Rattle.phh_actions.specs.Words as words;
 
-use first_fault::place_of;
+use first_fault::position_of;
 
 /// The text before its commentary.
 pub fn before_commentary(text: &[u8]) -> &[u8]
     ensures { result.now ≡ words.before_commentary text.now }
 {
-    let len = place_of(text, b'#');
+    let len = position_of(text, b'#');
     &text[..len]
 }
 

@@ -32,7 +32,7 @@ use Rattle.card_set.proofs.Entries.{cut_zeros, each_taken}
 use Rattle.card_set.proofs.Any.{zero_from_none_taken}
 use Rattle.chip_ledger.specs.SeatRow.{amounts_in}
 use Rattle.hand_records.specs.NoteTable.{texts_of}
-use Rattle.hand_records.specs.SaidNotes.{SaidNotes, kept_label, said_notes}
+use Rattle.hand_records.specs.SaidNotes.{SaidNotes, hand_name_noted, said_notes}
 use Rattle.hand_records.specs.AllowedNotes.{IsWithin}
 
 all_zero : (all : List ℕ) → length all ≡ 11 → ((k : ℕ) → get_or all k 0 ≡ 0) → all ≡ replicate 11 0
@@ -94,7 +94,7 @@ module _ (place : ℕ) (play : Play) (is : IsReadable play) where
         calendar_again notes.year notes.month notes.day is.notes.date,
       ) refl
 
-  labels_again : labels_said place members ≡ Ok (record { hand = kept_label place play.hand.notes.hand; texts = texts_of play.hand.notes })
+  labels_again : labels_said place members ≡ Ok (record { hand = hand_name_noted place play.hand.notes.hand; texts = texts_of play.hand.notes })
   unfolding labels_said
   labels_again =
       let notes = play.hand.notes in

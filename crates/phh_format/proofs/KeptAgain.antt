@@ -3,7 +3,7 @@ use Rattle.std.proofs.Common.{◌≡◌, ℕ, ap, ◌∙◌}
 use Rattle.hand_records.specs.declared.notes.Notes.{Notes}
 use Rattle.hand_records.proofs.NoteLaws.{label_twice, names_along, notes_same, numbers_again}
 use Rattle.phh_format.specs.KeptNotes.{kept_in_phh}
-use Rattle.hand_records.specs.SaidNotes.{KeepsNotes, SaidNotes, kept_label, name_said, plain_notes, said_notes}
+use Rattle.hand_records.specs.SaidNotes.{KeepsNotes, SaidNotes, hand_name_noted, name_said, plain_notes, said_notes}
 
 -- notes that are read back are those that were written
 pub keeps_said : (place count : ℕ) (notes again : Notes) → plain_notes count again ≡ said_notes place count notes
@@ -13,7 +13,7 @@ keeps_said place count notes again same =
       names = names_along count again.names (name_said notes.names) (ap (λ (n : SaidNotes). n.names) same);
       seats = numbers_again count again.seats notes.seats (ap (λ (n : SaidNotes). n.seats) same);
       seat_count = ap (λ (n : SaidNotes). n.seat_count) same;
-      hand = ap (λ (n : SaidNotes). kept_label place n.hand) same ∙ label_twice place notes.hand;
+      hand = ap (λ (n : SaidNotes). hand_name_noted place n.hand) same ∙ label_twice place notes.hand;
       texts = ap (λ (n : SaidNotes). n.texts) same;
       year = ap (λ (n : SaidNotes). n.year) same;
       month = ap (λ (n : SaidNotes). n.month) same;

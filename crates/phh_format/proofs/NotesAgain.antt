@@ -11,21 +11,21 @@ use Rattle.first_fault.specs.Reading.{read_if, or_none}
 use Rattle.first_fault.specs.declared.limits.TheConstants.{MOST_TEXT_BYTES}
 use Rattle.hand_records.specs.declared.notes.Clock.{Clock}
 use Rattle.hand_records.specs.AllowedNotes.{IsNoteText, IsTime, IsWithin, days_in_month}
-use Rattle.phh_reading.specs.declared.field_fault.FieldPlace.{FieldPlace}
+use Rattle.phh_reading.specs.declared.field_fault.FieldLocation.{FieldLocation}
 use Rattle.phh_reading.specs.Fields.{number_said, text_said}
 use Rattle.phh_reading.specs.NoteFields.{clock_said, is_in_calendar, label_said, note_said, or_zero, text_note_said, time_said}
 use Rattle.phh_writing.specs.HandFields.{hand_field, label, local_time, number_field, number_written}
 use Rattle.card_set.proofs.Tests.{implied}
 use Rattle.card_set.proofs.Digits.{all_digits, own_digits}
 use Rattle.card_set.proofs.Options.{from_none_some}
-use Rattle.hand_records.specs.SaidNotes.{kept_label}
+use Rattle.hand_records.specs.SaidNotes.{hand_name_noted}
 use Rattle.hand_records.proofs.NoteTexts.{not_empty, noted_again}
 
-pub note_again : (default text : List ℕ) (place : FieldPlace) → IsNoteText text → bytes_eq text default ≡ false → note_said default place text ≡ Ok (Some text)
+pub note_again : (default text : List ℕ) (place : FieldLocation) → IsNoteText text → bytes_eq text default ≡ false → note_said default place text ≡ Ok (Some text)
 unfolding note_said
 note_again default text place is other = rw (le-leb (length text) MOST_TEXT_BYTES is.1) (ap (λ found. Ok found) (noted_again default text is other))
 
-pub text_note_again : (place : FieldPlace) (said : Option (List ℕ)) → IfSome said IsNoteText → or_none (text_note_said [] place) (option_map string said) ≡ Ok said
+pub text_note_again : (place : FieldLocation) (said : Option (List ℕ)) → IfSome said IsNoteText → or_none (text_note_said [] place) (option_map string said) ≡ Ok said
 unfolding text_note_said text_said
 text_note_again place None is = refl
 text_note_again place (Some text) is = note_again [] text place is (not_empty text is)
@@ -57,7 +57,7 @@ number_is text number is = go (are_digits text && (not (slice_index text 0 == 48
         ap decimal (sym value.0) ∙ decimal-digits_value own_digits text (all_digits text digits.1) (ltb-true 0 (length text) digits.0) no_zero small
 
 -- a label reads back as its text
-pub label_again : (default text : List ℕ) (place : FieldPlace) → IsNoteText text → bytes_eq text default ≡ false → label_said default place (label text) ≡ Ok (Some text)
+pub label_again : (default text : List ℕ) (place : FieldLocation) → IsNoteText text → bytes_eq text default ≡ false → label_said default place (label text) ≡ Ok (Some text)
 unfolding label_said
 label_again default text place is other = go (number_written text) refl
   where
@@ -65,11 +65,11 @@ label_again default text place is other = go (number_written text) refl
     go None found = note_again default text place is other
     go (Some number) found = ap (note_said default place) (number_is text number found) ∙ note_again default text place is other
 
-pub table_again : (place : FieldPlace) (said : Option (List ℕ)) → IfSome said IsNoteText → or_none (label_said [] place) (option_map label said) ≡ Ok said
+pub table_again : (place : FieldLocation) (said : Option (List ℕ)) → IfSome said IsNoteText → or_none (label_said [] place) (option_map label said) ≡ Ok said
 table_again place None is = refl
 table_again place (Some text) is = label_again [] text place is (not_empty text is)
 
-pub name_again : (at : ℕ) (place : FieldPlace) (said : Option (List ℕ)) → IfSome said IsNoteText → or_none (label_said (decimal at) place) (hand_field at said) ≡ Ok (kept_label at said)
+pub name_again : (at : ℕ) (place : FieldLocation) (said : Option (List ℕ)) → IfSome said IsNoteText → or_none (label_said (decimal at) place) (hand_field at said) ≡ Ok (hand_name_noted at said)
 name_again at place None is = refl
 name_again at place (Some name) is = go (bytes_eq name (decimal at)) refl
   where
@@ -77,11 +77,11 @@ name_again at place (Some name) is = go (bytes_eq name (decimal at)) refl
     go true usual = refl
     go false other = label_again (decimal at) name place is other
 
-pub number_again : (least most number : ℕ) (place : FieldPlace) → IsWithin least most number → number_said least most place (integer (pos number)) ≡ Ok number
+pub number_again : (least most number : ℕ) (place : FieldLocation) → IsWithin least most number → number_said least most place (integer (pos number)) ≡ Ok number
 unfolding number_said
 number_again least most number place is = rw (le-leb least number is.0, le-leb number most is.1) refl
 
-pub said_again : (least most : ℕ) (place : FieldPlace) (said : Option ℕ) → IfSome said (IsWithin least most) → read_if (number_said least most place) (number_field said) ≡ Ok said
+pub said_again : (least most : ℕ) (place : FieldLocation) (said : Option ℕ) → IfSome said (IsWithin least most) → read_if (number_said least most place) (number_field said) ≡ Ok said
 said_again least most place None is = refl
 said_again least most place (Some number) is = rw (number_again least most number place is) refl
 

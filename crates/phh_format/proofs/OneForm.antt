@@ -36,12 +36,12 @@ use Rattle.hand_canon.proofs.UnusualNumbers.{unusual}
 use Rattle.hand_records.specs.Moves.{moves_played}
 use Rattle.phh_format.proofs.ReadBack.{said_from}
 use Rattle.hand_records.specs.PlainHands.{PlainHand}
-use Rattle.hand_records.specs.SaidNotes.{SaidNotes, kept_label, name_said, notes_of, said_notes}
+use Rattle.hand_records.specs.SaidNotes.{SaidNotes, hand_name_noted, name_said, notes_of, said_notes}
 
 -- ---- what is written of notes
 
 -- a label that is written is one that is noted
-label_field : (place : ℕ) (said : Option (List ℕ)) → hand_field place said ≡ option_map label (kept_label place said)
+label_field : (place : ℕ) (said : Option (List ℕ)) → hand_field place said ≡ option_map label (hand_name_noted place said)
 label_field place None = refl
 label_field place (Some text) = by_test (bytes_eq text (decimal place))
   where

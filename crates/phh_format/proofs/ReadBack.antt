@@ -26,7 +26,7 @@ use Rattle.hand_records.specs.declared.record.Stated.{Stated}
 use Rattle.hand_records.specs.declared.trace.Play.{Play}
 use Rattle.hand_records.specs.declared.trace.Trace.{Trace}
 use Rattle.hand_canon.specs.Agreement.{finish_compared, first_difference, is_different}
-use Rattle.hand_canon.specs.Judged.{IsTraceOfLegal}
+use Rattle.hand_canon.specs.LegalPlay.{IsTraceOfLegal}
 use Rattle.hand_canon.specs.LegalHand.{IsLegalHand}
 use Rattle.hand_canon.specs.Sound.{IsSound}
 use Rattle.hand_canon.specs.WholeTrace.{HasShares, IsTraceOf}

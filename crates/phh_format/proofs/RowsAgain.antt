@@ -9,7 +9,7 @@ use Rattle.chip_ledger.specs.declared.seat_row.SeatRow.{SeatRow}
 use Rattle.chip_ledger.specs.SeatRow.{amount_of, amounts_in}
 use Rattle.first_fault.specs.Reading.{each_from}
 use Rattle.phh_reading.specs.declared.field_fault.FieldKey.{FieldKey}
-use Rattle.phh_reading.specs.declared.field_fault.FieldPlace.{FieldPlace}
+use Rattle.phh_reading.specs.declared.field_fault.FieldLocation.{FieldLocation}
 use Rattle.phh_reading.specs.Fields.{amount_said, at_item, items_said, list_said, listed}
 use Rattle.phh_reading.specs.Rows.{amounts_said, row_said}
 use Rattle.phh_writing.specs.HandFields.{numbers}
@@ -25,7 +25,7 @@ listed_again (item ∷ rest) = ap (λ (items : List Data). item ∷ items) (list
 abbrev pub number_data : List ℕ → List Data
 number_data all = map (λ number. integer (pos number)) all
 
-pub amount_again : (least most number : ℕ) (place : FieldPlace) → least ≤ number → number ≤ most → amount_said least most place (integer (pos number)) ≡ Ok number
+pub amount_again : (least most number : ℕ) (place : FieldLocation) → least ≤ number → number ≤ most → amount_said least most place (integer (pos number)) ≡ Ok number
 unfolding amount_said
 amount_again least most number place low high = rw (le-leb least number low, le-leb number most high) refl
 
@@ -40,7 +40,7 @@ amounts_from least most key n (number ∷ rest) each =
 pub amounts_again : (least most : ℕ) (key : FieldKey) (all : List ℕ) → AllByRecursion (IsWithin least most) all → amounts_said least most key (number_data all) ≡ Ok all
 amounts_again least most key all each = amounts_from least most key 1 all each
 
-pub list_again : (place : FieldPlace) (all : List ℕ) → list_said place (numbers all) ≡ Ok (number_data all)
+pub list_again : (place : FieldLocation) (all : List ℕ) → list_said place (numbers all) ≡ Ok (number_data all)
 unfolding list_said
 list_again place all = ap (λ items. Ok items) (listed_again (number_data all))
 

@@ -12,7 +12,7 @@ use Rattle.first_fault.specs.declared.limits.TheConstants.{MOST_TEXT_BYTES}
 use Rattle.hand_records.specs.declared.notes.Notes.{Notes}
 use Rattle.hand_records.specs.AllowedNotes.{AreSeatNumbers, IsName, IsSeatCount, IsWithin, name_written, non_default_seats}
 use Rattle.phh_reading.specs.declared.field_fault.FieldKey.TheVariants as keys
-use Rattle.phh_reading.specs.declared.field_fault.FieldPlace.{FieldPlace}
+use Rattle.phh_reading.specs.declared.field_fault.FieldLocation.{FieldLocation}
 use Rattle.phh_reading.specs.Fields.{at_item, at_key, items_said, list_said, number_said, text_said}
 use Rattle.phh_reading.specs.NoteFields.{names_said, note_said, seat_count_said, seats_said, text_note_said}
 use Rattle.phh_writing.specs.HandFields.{names_field, number_field, numbers, texts}
@@ -28,14 +28,14 @@ abbrev pub name_at : Notes → ℕ → Option (List ℕ)
 name_at notes seat = get_or notes.names (seat - 1) None
 
 -- a name that is the default counts as none
-default_again : (seat : ℕ) (place : FieldPlace) → seat ≤ 10 → note_said (default_name seat) place (default_name seat) ≡ Ok None
+default_again : (seat : ℕ) (place : FieldLocation) → seat ≤ 10 → note_said (default_name seat) place (default_name seat) ≡ Ok None
 unfolding note_said
 default_again seat place few =
     let short : length (decimal seat) ≤ 20 = length-decimal-le 20 seat (omega arith) (omega (arith, few)) (omega (arith, few)) in
     let usual : bytes_eq (default_name seat) (default_name seat) ≡ true = (bytes_eq-Decides (default_name seat) (default_name seat)).1 refl in
     rw (le-leb (length (default_name seat)) MOST_TEXT_BYTES (omega (arith, short)), usual) (ap (λ (found : Option (List ℕ)). Ok found) (none_anyway (length (default_name seat) == 0) (default_name seat)))
 
-one_name : (seat : ℕ) (place : FieldPlace) (said : Option (List ℕ)) → seat ≤ 10 → IfSome said (IsName seat) → text_note_said (default_name seat) place (string (unwrap_or said (default_name seat))) ≡ Ok said
+one_name : (seat : ℕ) (place : FieldLocation) (said : Option (List ℕ)) → seat ≤ 10 → IfSome said (IsName seat) → text_note_said (default_name seat) place (string (unwrap_or said (default_name seat))) ≡ Ok said
 unfolding text_note_said text_said
 one_name seat place None few is = default_again seat place few
 one_name seat place (Some name) few is = note_again (default_name seat) name place is.text (different_bytes name (default_name seat) is.said)

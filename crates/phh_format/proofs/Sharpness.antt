@@ -22,7 +22,7 @@ use Rattle.hand_records.specs.declared.record.Record.{Record}
 use Rattle.hand_records.specs.declared.trace.Play.{Play}
 use Rattle.hand_records.specs.declared.writing.Unspelled.{Unspelled}
 use Rattle.hand_records.specs.declared.writing.Unspelled.TheVariants as facts
-use Rattle.hand_canon.specs.Judged.{IsTraceOfLegal}
+use Rattle.hand_canon.specs.LegalPlay.{IsTraceOfLegal}
 use Rattle.canon_laws.proofs.SuitedRules.{suits_own}
 use Rattle.phh_reading.specs.Hand.{finish_stated, hand_said, rakes_at}
 use Rattle.phh_reading.specs.Reading.{Wrong, at_variant, document_of, document_said, hands_of, hands_said, in_hand, numbered_hand, reading, records_said, spelled_fault, those_said}

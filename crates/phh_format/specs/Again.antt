@@ -7,14 +7,14 @@ use Rattle.hand_records.specs.declared.trace.Play.{Play}
 use Rattle.phh_reading.specs.Hand.{finish_stated}
 use Rattle.phh_writing.specs.HandFields.{script_of}
 use Rattle.chip_ledger.specs.SeatRow.{amounts_in}
-use Rattle.first_fault.specs.Numbers.{kept_number}
+use Rattle.first_fault.specs.Numbers.{saturated}
 use Rattle.hand_records.specs.PlainHands.{PlainHand, plain_setup}
 use Rattle.hand_records.specs.SaidNotes.{notes_of}
 
 -- events with the numbers of their actions; the first has this number
 abbrev pub numbered_from : ℕ → List Said → List Numbered
 numbered_from n [] = []
-numbered_from n (event ∷ rest) = (kept_number n, event) ∷ numbered_from (n + 1) rest
+numbered_from n (event ∷ rest) = (saturated n, event) ∷ numbered_from (n + 1) rest
 
 -- the hand that is read back from the play at this place of its file, from 0
 abbrev pub hand_again : ℕ → Play → PlainHand

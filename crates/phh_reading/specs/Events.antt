@@ -14,11 +14,11 @@ use Rattle.phh_actions.specs.Action.{action_said}
 use Rattle.phh_reading.specs.declared.field_fault.FieldKey.TheVariants as keys
 use Rattle.phh_reading.specs.declared.field_fault.FieldFaultKind.{FieldFaultKind}
 use Rattle.phh_reading.specs.declared.field_fault.FieldFaultKind.TheVariants as whats
-use Rattle.phh_reading.specs.declared.field_fault.FieldPlace.{FieldPlace}
+use Rattle.phh_reading.specs.declared.field_fault.FieldLocation.{FieldLocation}
 use Rattle.phh_reading.specs.declared.field_fault.FieldFault.{FieldFault}
 use Rattle.phh_reading.specs.Fields.{at_item, wrong, text_said}
 use Rattle.phh_reading.specs.declared.events.EventCounts.{EventCounts}
-use Rattle.first_fault.specs.Numbers.{kept_number}
+use Rattle.first_fault.specs.Numbers.{saturated}
 
 -- the counts before the first action of a hand, after this number of moves of the file
 abbrev pub counts_after : ℕ → EventCounts
@@ -59,7 +59,7 @@ listed_event (Some event) = numbered event ∷ []
 listed_event None = []
 
 -- the counts after one more event, each within its limit
-unfoldable pub counted : EventCounts → FieldPlace → Bool → Result EventCounts FieldFault
+unfoldable pub counted : EventCounts → FieldLocation → Bool → Result EventCounts FieldFault
 counted counts place moves =
     if moves
     then (if nat_le MOST_MOVES counts.moves then wrong (whats.TooMany quantities.Moves) place
@@ -86,7 +86,7 @@ unfoldable pub added : EventCounts → ℕ → Option Said
 added counts n None = Ok ([], counts)
 added counts n (Some event) =
     counted counts (at_item keys.Actions n) (is_move event)
-    >>= λ next. Ok ((kept_number n, event) ∷ [], next)
+    >>= λ next. Ok ((saturated n, event) ∷ [], next)
 
 -- what is wrong with an action
 abbrev pub action_fault : ActionFault → FieldFaultKind
@@ -95,16 +95,16 @@ action_fault actions.AmountNotWhole = whats.AmountNotWhole
 action_fault actions.AmountLimit = whats.AmountLimit
 
 -- a fault of an action at its place
-abbrev pub at_place : {A : Type 0} → FieldPlace → Result A ActionFault → Result A FieldFault
-at_place place (Ok x) = Ok x
-at_place place (Err fault) = wrong (action_fault fault) place
+abbrev pub at_location : {A : Type 0} → FieldLocation → Result A ActionFault → Result A FieldFault
+at_location place (Ok x) = Ok x
+at_location place (Err fault) = wrong (action_fault fault) place
 
 -- an action
 unfoldable pub event_said : ℕ → EventCounts → ℕ → Data
     → Result (List Numbered × EventCounts) FieldFault
 event_said seats counts n value = do
   text ← text_said (at_item keys.Actions n) value
-  event ← at_place (at_item keys.Actions n) (action_said seats text)
+  event ← at_location (at_item keys.Actions n) (action_said seats text)
   added counts n event
 
 -- the actions in order

@@ -8,7 +8,7 @@ use Rattle.phh_reading.specs.declared.field_fault.FieldKey.{FieldKey}
 use Rattle.phh_reading.specs.declared.field_fault.FieldKey.TheVariants as keys
 use Rattle.phh_reading.specs.declared.field_fault.FieldFaultKind.{FieldFaultKind}
 use Rattle.phh_reading.specs.declared.field_fault.FieldFaultKind.TheVariants as whats
-use Rattle.phh_reading.specs.declared.field_fault.FieldPlace.{FieldPlace}
+use Rattle.phh_reading.specs.declared.field_fault.FieldLocation.{FieldLocation}
 use Rattle.phh_reading.specs.declared.field_fault.FieldFault.{FieldFault}
 
 -- how the keys are written
@@ -39,30 +39,30 @@ key_text keys.Time = codes "time"
 key_text keys.TimeZone = codes "time_zone"
 
 -- a key itself, and an item of its list, counted from 1
-abbrev pub at_key : FieldKey → FieldPlace
+abbrev pub at_key : FieldKey → FieldLocation
 at_key key = record { key = key; item = 0 }
 
 -- an item of the list of a key, counted from 1
-abbrev pub at_item : FieldKey → ℕ → FieldPlace
+abbrev pub at_item : FieldKey → ℕ → FieldLocation
 at_item key n = record { key = key; item = n }
 
 -- a place as text: the key, and for an item a space and its number
-abbrev pub place_text : FieldPlace → List ℕ
-place_text place =
+abbrev pub field_text : FieldLocation → List ℕ
+field_text place =
     if place.item == 0
     then key_text place.key
     else (key_text place.key ++ (codes " " ++ decimal place.item))
 
 -- a fault at a place
-abbrev pub fault_at : FieldFaultKind → FieldPlace → FieldFault
+abbrev pub fault_at : FieldFaultKind → FieldLocation → FieldFault
 fault_at what place = record { what = what; place = place }
 
 -- what is wrong at a place
-abbrev pub wrong : {A : Type 0} → FieldFaultKind → FieldPlace → Result A FieldFault
+abbrev pub wrong : {A : Type 0} → FieldFaultKind → FieldLocation → Result A FieldFault
 wrong what place = Err (fault_at what place)
 
 -- a value that is there, or else a fault
-abbrev pub or_wrong : {A : Type 0} → FieldFaultKind → FieldPlace → Option A → Result A FieldFault
+abbrev pub or_wrong : {A : Type 0} → FieldFaultKind → FieldLocation → Option A → Result A FieldFault
 or_wrong what place found = or_fault (fault_at what place) found
 
 -- the value at a key, if there is one
@@ -79,7 +79,7 @@ text_of (string text) = Some text
 text_of _ = None
 
 -- a text
-unfoldable pub text_said : FieldPlace → Data → Result (List ℕ) FieldFault
+unfoldable pub text_said : FieldLocation → Data → Result (List ℕ) FieldFault
 text_said place value = or_wrong whats.WrongType place (text_of value)
 
 -- the truth value that a value is
@@ -88,7 +88,7 @@ flag_of (boolean flag) = Some flag
 flag_of _ = None
 
 -- a truth value
-unfoldable pub flag_said : FieldPlace → Data → Result Bool FieldFault
+unfoldable pub flag_said : FieldLocation → Data → Result Bool FieldFault
 flag_said place value = or_wrong whats.WrongType place (flag_of value)
 
 -- the items of a list, in order
@@ -102,7 +102,7 @@ list_of (array items) = Some (listed items)
 list_of _ = None
 
 -- a list
-unfoldable pub list_said : FieldPlace → Data → Result (List Data) FieldFault
+unfoldable pub list_said : FieldLocation → Data → Result (List Data) FieldFault
 list_said place value = or_wrong whats.WrongType place (list_of value)
 
 -- a list with one item for each of this many seats
@@ -118,7 +118,7 @@ numeral_of (float number) = Fraction
 numeral_of _ = NoNumber
 
 -- the faults of an amount at a place
-abbrev pub amount_faults : FieldPlace → NumberFaults FieldFault
+abbrev pub amount_faults : FieldLocation → NumberFaults FieldFault
 amount_faults place =
     record {
       out_of_range = fault_at whats.AmountLimit place;
@@ -127,12 +127,12 @@ amount_faults place =
     }
 
 -- an amount from least to most: a whole number of chips
-unfoldable pub amount_said : ℕ → ℕ → FieldPlace → Data → Result ℕ FieldFault
+unfoldable pub amount_said : ℕ → ℕ → FieldLocation → Data → Result ℕ FieldFault
 amount_said least most place value =
     whole_within (amount_faults place) least most (numeral_of value)
 
 -- the faults of a number that is not an amount: with a fraction it has the wrong type
-abbrev pub number_faults : FieldPlace → NumberFaults FieldFault
+abbrev pub number_faults : FieldLocation → NumberFaults FieldFault
 number_faults place =
     record {
       out_of_range = fault_at whats.AmountLimit place;
@@ -141,6 +141,6 @@ number_faults place =
     }
 
 -- a whole number from least to most that is not an amount of chips
-unfoldable pub number_said : ℕ → ℕ → FieldPlace → Data → Result ℕ FieldFault
+unfoldable pub number_said : ℕ → ℕ → FieldLocation → Data → Result ℕ FieldFault
 number_said least most place value =
     whole_within (number_faults place) least most (numeral_of value)

@@ -13,7 +13,7 @@ use Rattle.hand_records.specs.SaidNotes.{SaidNotes}
 use Rattle.first_fault.specs.Reading.{◌>>=◌, each_from, read_if, or_none}
 use Rattle.phh_reading.specs.declared.field_fault.FieldKey.TheVariants as keys
 use Rattle.phh_reading.specs.declared.field_fault.FieldFaultKind.TheVariants as whats
-use Rattle.phh_reading.specs.declared.field_fault.FieldPlace.{FieldPlace}
+use Rattle.phh_reading.specs.declared.field_fault.FieldLocation.{FieldLocation}
 use Rattle.phh_reading.specs.declared.field_fault.FieldFault.{FieldFault}
 use Rattle.phh_reading.specs.declared.date.PartialDate.{PartialDate}
 use Rattle.phh_reading.specs.declared.labels.Labels.{Labels}
@@ -43,16 +43,16 @@ pub record AreNames (count : ℕ) (names : List (Option (List ℕ))) : Type 0 wh
   pub no_more : (index : ℕ) → count ≤ index → slice_index_or names index None ≡ None
 
 -- the text of a note with this default; it is of at most 255 bytes
-unfoldable pub note_said : List ℕ → FieldPlace → List ℕ → Result (Option (List ℕ)) FieldFault
+unfoldable pub note_said : List ℕ → FieldLocation → List ℕ → Result (Option (List ℕ)) FieldFault
 note_said default place text =
     noted_or (record { what = whats.TooMany quantities.TextBytes; place = place }) default text
 
 -- a text with this default
-unfoldable pub text_note_said : List ℕ → FieldPlace → Data → Result (Option (List ℕ)) FieldFault
+unfoldable pub text_note_said : List ℕ → FieldLocation → Data → Result (Option (List ℕ)) FieldFault
 text_note_said default place value = text_said place value >>= note_said default place
 
 -- a text with this default; a whole number counts as its decimal text
-unfoldable pub label_said : List ℕ → FieldPlace → Data → Result (Option (List ℕ)) FieldFault
+unfoldable pub label_said : List ℕ → FieldLocation → Data → Result (Option (List ℕ)) FieldFault
 label_said default place (string text) = note_said default place text
 label_said default place (integer number) = note_said default place (signed_decimal number)
 label_said default place _ = wrong whats.WrongType place

@@ -11,7 +11,7 @@ use Rattle.phh_reading.specs.declared.field_fault.FieldKey.TheVariants as keys
 use Rattle.phh_reading.specs.declared.field_fault.FieldFaultKind.{FieldFaultKind}
 use Rattle.phh_reading.specs.declared.field_fault.FieldFaultKind.TheVariants as whats
 use Rattle.phh_reading.specs.declared.field_fault.FieldFault.{FieldFault}
-use Rattle.phh_reading.specs.Fields.{at_key, field, place_text}
+use Rattle.phh_reading.specs.Fields.{at_key, field, field_text}
 use Rattle.phh_reading.specs.declared.fault.PhhHandFault.{PhhHandFault}
 use Rattle.phh_reading.specs.declared.fault.PhhFault.{PhhFault}
 use Rattle.phh_reading.specs.declared.fault.PhhFault.TheVariants as faults
@@ -66,7 +66,7 @@ pub data Wrong : Type 0 where
 -- a fault with its key as text
 abbrev pub spelled_fault : {A : Type 0} → Result A PhhHandFault → Result A Wrong
 spelled_fault (Ok x) = Ok x
-spelled_fault (Err found) = Err (InHand found.hand (place_text found.fault.place) found.fault.what)
+spelled_fault (Err found) = Err (InHand found.hand (field_text found.fault.place) found.fault.what)
 
 -- the document of the bytes, if they are TOML
 abbrev pub document_of : List ℕ → Option Members

@@ -8,7 +8,7 @@ use Rattle.first_fault.specs.Reading.{◌>>=◌, each_from}
 use Rattle.phh_reading.specs.declared.field_fault.FieldKey.{FieldKey}
 use Rattle.phh_reading.specs.declared.field_fault.FieldKey.TheVariants as keys
 use Rattle.phh_reading.specs.declared.field_fault.FieldFaultKind.TheVariants as whats
-use Rattle.phh_reading.specs.declared.field_fault.FieldPlace.{FieldPlace}
+use Rattle.phh_reading.specs.declared.field_fault.FieldLocation.{FieldLocation}
 use Rattle.phh_reading.specs.declared.field_fault.FieldFault.{FieldFault}
 use Rattle.phh_reading.specs.Fields.{at_key, at_item, wrong, list_said, items_said, amount_said}
 
@@ -30,7 +30,7 @@ stacks_said most_seats value = do
       else wrong whats.SeatCount (at_key keys.StartingStacks)
 
 -- the ante of a seat with this stack: the smaller of the stated ante and the stack
-unfoldable pub ante_said : ℕ → FieldPlace → Data → Result ℕ FieldFault
+unfoldable pub ante_said : ℕ → FieldLocation → Data → Result ℕ FieldFault
 ante_said stack place value = amount_said 0 MOST_CHIPS place value >>= λ ante. Ok (min ante stack)
 
 -- the antes of seats with these stacks, none above its stack

@@ -9,7 +9,7 @@ ghost use Rattle.phh_reading.specs.Fields as fields;
 ghost use Rattle.phh_reading.specs.NoteFields.{day_said, time_said};
 ghost use Rattle.phh_reading.specs.NoteFields as note_fields;
 
-use crate::field_fault::{FieldFault, FieldFaultKind, FieldKey, FieldPlace};
+use crate::field_fault::{FieldFault, FieldFaultKind, FieldKey, FieldLocation};
 use crate::values::{field, field_fault_at, read_number};
 use first_fault::ReadError;
 use hand_records::{Clock, has_day};
@@ -41,7 +41,7 @@ pub fn read_day(table: &Table) -> Result<PartialDate, ReadError<FieldFault>>
     if is_in_calendar(date) {
         Ok(date)
     } else {
-        Err(field_fault_at(FieldFaultKind::WrongType, FieldPlace::at_key(FieldKey::Day)))
+        Err(field_fault_at(FieldFaultKind::WrongType, FieldLocation::at_key(FieldKey::Day)))
     }
 }
 
@@ -54,7 +54,7 @@ fn read_year(table: &Table) -> Result<Option<u16>, ReadError<FieldFault>>
 {
     match field(table, FieldKey::Year) {
         Some(value) => {
-            let year = read_number(value, 1, 9999, FieldPlace::at_key(FieldKey::Year))?;
+            let year = read_number(value, 1, 9999, FieldLocation::at_key(FieldKey::Year))?;
             Ok(Some(year as u16))
         }
         None => Ok(None),
@@ -69,7 +69,7 @@ fn read_part(table: &Table, key: FieldKey, most: u8) -> Result<Option<u8>, ReadE
 {
     match field(table, key) {
         Some(value) => {
-            let part = read_number(value, 1, u64::from(most), FieldPlace::at_key(key))?;
+            let part = read_number(value, 1, u64::from(most), FieldLocation::at_key(key))?;
             Ok(Some(part as u8))
         }
         None => Ok(None),
@@ -117,7 +117,7 @@ fn read_time(value: &Value) -> Result<Clock, ReadError<FieldFault>>
     }
     Err(field_fault_at(
         FieldFaultKind::WrongType,
-        FieldPlace::at_key(FieldKey::Time),
+        FieldLocation::at_key(FieldKey::Time),
     ))
 }
 

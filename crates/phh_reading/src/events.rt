@@ -5,9 +5,9 @@ ghost use Rattle.first_fault.specs.declared.limits.TheConstants.{MOST_FILE_MOVES
 ghost use Rattle.play_event.specs.Said.{kind_said, numbered};
 ghost use Rattle.first_fault.specs.Reading.{Gives};
 ghost use Rattle.phh_actions.specs.Action.{action_said};
-ghost use Rattle.phh_reading.specs.Events.{AreCounted, AreFew, IsAfter, IsOneMore, at_place, counted, counts_after, event_said, events_said, listed_event, one_event};
+ghost use Rattle.phh_reading.specs.Events.{AreCounted, AreFew, IsAfter, IsOneMore, at_location, counted, counts_after, event_said, events_said, listed_event, one_event};
 
-use crate::field_fault::{FieldFault, FieldFaultKind, FieldKey, FieldPlace};
+use crate::field_fault::{FieldFault, FieldFaultKind, FieldKey, FieldLocation};
 use crate::values::{field_fault_at, read_text};
 use card_set::Memory;
 use chip_ledger::PlayerCount;
@@ -66,7 +66,7 @@ fn read_event(
     ensures few { AreFew counts → IfOk result (λ found. AreFew found.1) }
     ensures after { IfOk result (λ found. IsAfter counts found.0 found.1) }
 {
-    let place = FieldPlace {
+    let place = FieldLocation {
         key: FieldKey::Actions,
         item: number,
     };
@@ -85,10 +85,10 @@ fn read_event(
 fn read_kind(
     text: &str,
     players: PlayerCount,
-    place: FieldPlace,
+    place: FieldLocation,
 ) -> Result<Option<Kind>, ReadError<FieldFault>>
     ensures { Gives (option_map kind_said) result
-        (at_place place (action_said players.number text.now)) }
+        (at_location place (action_said players.number text.now)) }
 {
     match read_action(text, players) {
         Ok(kind) => Ok(kind),
@@ -100,7 +100,7 @@ fn read_kind(
 #[tactic(auto, unfolding(crate::specs::Events::counted))]
 fn count(
     counts: EventCounts,
-    place: FieldPlace,
+    place: FieldLocation,
     moves: bool,
 ) -> Result<EventCounts, ReadError<FieldFault>>
     ensures said { Gives (λ next. next) result (counted counts place moves) }
@@ -132,7 +132,7 @@ fn count(
 }
 
 // The fault of a quantity that exceeds its limit.
-fn too_many(quantity: Quantity, place: FieldPlace) -> ReadError<FieldFault>
+fn too_many(quantity: Quantity, place: FieldLocation) -> ReadError<FieldFault>
     ensures { result ≡ ReadError.Fault
         (record { what = FieldFaultKind.TooMany quantity; place = place }) }
 {

@@ -107,25 +107,25 @@ impl FieldKey {
 
 /// Where a fault is: at a key, or at an item of its list.
 #[derive(Clone, Copy, Debug, PartialEq, Eq)]
-pub struct FieldPlace {
+pub struct FieldLocation {
     pub key: FieldKey,
     /// The number of the item from 1, or 0 for the key itself.
     pub item: u64,
 }
 
-impl FieldPlace {
+impl FieldLocation {
     /// The key itself.
     pub fn at_key(key: FieldKey) -> Self
         ensures { result ≡ fields.at_key key }
     {
-        FieldPlace { key, item: 0 }
+        FieldLocation { key, item: 0 }
     }
 
     /// The item with this number, from 1.
     pub fn at_item(key: FieldKey, item: u64) -> Self
         ensures { result ≡ fields.at_item key item }
     {
-        FieldPlace { key, item }
+        FieldLocation { key, item }
     }
 }
 
@@ -133,5 +133,5 @@ impl FieldPlace {
 #[derive(Clone, Copy, Debug, PartialEq, Eq)]
 pub struct FieldFault {
     pub what: FieldFaultKind,
-    pub place: FieldPlace,
+    pub place: FieldLocation,
 }

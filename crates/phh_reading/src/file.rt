@@ -11,7 +11,7 @@ ghost use Rattle.hand_records.specs.Histories.{AreHistories, IsNextHand};
 ghost use Rattle.hand_records.specs.PlainHands.{plain};
 
 use crate::fault::PhhHandFault;
-use crate::field_fault::{FieldFault, FieldFaultKind, FieldKey, FieldPlace};
+use crate::field_fault::{FieldFault, FieldFaultKind, FieldKey, FieldLocation};
 use crate::hand::read_hand;
 use crate::order::{is_multi_hand, tables_in_order};
 use crate::values::field;
@@ -102,7 +102,7 @@ fn at_variant(hand: u32, what: FieldFaultKind) -> ReadError<PhhHandFault>
       fault = record { what = what; place = at_key keys.Variant };
     }) }
 {
-    let place = FieldPlace::at_key(FieldKey::Variant);
+    let place = FieldLocation::at_key(FieldKey::Variant);
     ReadError::Fault(PhhHandFault {
         hand,
         fault: FieldFault { what, place },

@@ -16,7 +16,7 @@ ghost use Rattle.hand_records.specs.Moves.{moves_of};
 ghost use Rattle.hand_records.specs.PlainHands.{plain};
 
 use crate::events::read_events;
-use crate::field_fault::{FieldFault, FieldKey, FieldPlace};
+use crate::field_fault::{FieldFault, FieldKey, FieldLocation};
 use crate::notes::read_notes;
 use crate::rows::{read_rakes, read_row};
 use crate::setup::read_setup;
@@ -48,7 +48,7 @@ pub fn read_hand(
     let players = setup.stacks.players();
     let actions = read_list(
         required(table, FieldKey::Actions)?,
-        FieldPlace::at_key(FieldKey::Actions),
+        FieldLocation::at_key(FieldKey::Actions),
     )?;
     let (script, counts) = read_events(alloc, players, file_moves, actions)?;
     let finish = read_finish(table, players)?;

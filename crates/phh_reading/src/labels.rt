@@ -9,7 +9,7 @@ ghost use Rattle.phh_reading.specs.Fields.{at_key};
 ghost use Rattle.phh_reading.specs.Fields as fields;
 ghost use Rattle.phh_reading.specs.NoteFields.{label_said, labels_said, text_note_said};
 
-use crate::field_fault::{FieldFault, FieldKey, FieldPlace};
+use crate::field_fault::{FieldFault, FieldKey, FieldLocation};
 use crate::texts::{read_label, read_text_note};
 use crate::values::field;
 use card_set::displayed;
@@ -65,7 +65,7 @@ fn hand_at(alloc: Global, table: &Table, place: u32) -> Result<Option<Text>, Rea
                 alloc,
                 value,
                 usual.as_str(),
-                FieldPlace::at_key(FieldKey::Hand),
+                FieldLocation::at_key(FieldKey::Hand),
             )
         }
         None => Ok(None),
@@ -83,7 +83,7 @@ fn label_at(
     ensures allowed { IfOk result (λ note. IfSome note IsNoteText) }
 {
     match field(table, key) {
-        Some(value) => read_label(alloc, value, "", FieldPlace::at_key(key)),
+        Some(value) => read_label(alloc, value, "", FieldLocation::at_key(key)),
         None => Ok(None),
     }
 }
@@ -99,7 +99,7 @@ pub fn text_at(
     ensures allowed { IfOk result (λ note. IfSome note IsNoteText) }
 {
     match field(table, key) {
-        Some(value) => read_text_note(alloc, value, "", FieldPlace::at_key(key)),
+        Some(value) => read_text_note(alloc, value, "", FieldLocation::at_key(key)),
         None => Ok(None),
     }
 }

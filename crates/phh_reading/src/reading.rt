@@ -11,7 +11,7 @@ ghost use Rattle.hand_records.specs.Moves.{moves_of};
 
 use crate::by_table::read_by_table;
 use crate::fault::{PhhFault, PhhHandFault};
-use crate::field_fault::{FieldFaultKind, FieldPlace};
+use crate::field_fault::{FieldFaultKind, FieldLocation};
 use crate::file::read_hands;
 use card_set::{Memory, try_format};
 use first_fault::{ReadError, Text};
@@ -73,17 +73,17 @@ fn read_document(alloc: Global, table: &Table) -> Result<Records, PhhFault>
 // A fault with its key as text.
 fn spelled(alloc: Global, found: PhhHandFault) -> PhhFault
     ensures { IfSome (wrong_of result) (λ wrong.
-        wrong ≡ InHand found.hand (fields.place_text found.fault.place) found.fault.what) }
+        wrong ≡ InHand found.hand (fields.field_text found.fault.place) found.fault.what) }
 {
-    match place_text(alloc, found.fault.place) {
+    match field_text(alloc, found.fault.place) {
         Ok(key) => wrong_at(found.hand, key, found.fault.what),
         Err(memory) => PhhFault::Memory(memory),
     }
 }
 
 // A place as text: the key, and for an item a space and its number.
-fn place_text(alloc: Global, place: FieldPlace) -> Result<Text, Memory>
-    ensures { IfOk result (λ text. text ≡ fields.place_text place) }
+fn field_text(alloc: Global, place: FieldLocation) -> Result<Text, Memory>
+    ensures { IfOk result (λ text. text ≡ fields.field_text place) }
 {
     let key = place.key.text();
     if place.item == 0 {

@@ -10,7 +10,7 @@ ghost use Rattle.phh_reading.specs.Rows.{AreHeld, amounts_said, antes_from, ante
 ghost use Rattle.phh_reading.specs.Rows as rows;
 ghost use Rattle.chip_ledger.specs.SeatRow.{amounts_in};
 
-use crate::field_fault::{FieldFault, FieldFaultKind, FieldKey, FieldPlace};
+use crate::field_fault::{FieldFault, FieldFaultKind, FieldKey, FieldLocation};
 use crate::values::{field_fault_at, read_amount, read_items, read_list};
 use chip_ledger::{MOST_AMOUNT, MOST_CHIPS, PlayerCount, RakeRow, SeatRow};
 use first_fault::{ReadError, has_count};
@@ -42,7 +42,7 @@ pub fn read_stacks(value: &Value, most_seats: u8) -> Result<SeatRow, ReadError<F
     ensures sizes { IfOk result (λ row. (k : ℕ)
         → k < row.seats → IsSize (slice_index row.amounts k)) }
 {
-    let place = FieldPlace::at_key(FieldKey::StartingStacks);
+    let place = FieldLocation::at_key(FieldKey::StartingStacks);
     let values = read_list(value, place)?;
     if !has_count(values, 2, most_seats as usize) {
         return Err(field_fault_at(FieldFaultKind::SeatCount, place));
@@ -68,7 +68,7 @@ fn read_amounts(
 {
     let mut amounts = [0; 10];
     for (index, value) in values.iter().enumerate() {
-        let place = FieldPlace {
+        let place = FieldLocation {
             key,
             item: index as u64 + 1,
         };
@@ -100,7 +100,7 @@ fn fill_antes(values: &[Value], stacks: &SeatRow) -> Result<SeatRow, ReadError<F
 {
     let mut amounts = [0; 10];
     for (index, value) in values.iter().enumerate() {
-        let place = FieldPlace {
+        let place = FieldLocation {
             key: FieldKey::Antes,
             item: index as u64 + 1,
         };
@@ -114,7 +114,7 @@ fn fill_antes(values: &[Value], stacks: &SeatRow) -> Result<SeatRow, ReadError<F
 
 // An ante: the smaller of the stated one and the stack.
 #[tactic(auto, unfolding(crate::specs::Rows::ante_said))]
-fn read_ante(value: &Value, stack: u64, place: FieldPlace) -> Result<u64, ReadError<FieldFault>>
+fn read_ante(value: &Value, stack: u64, place: FieldLocation) -> Result<u64, ReadError<FieldFault>>
     ensures within { IfOk result (λ ante. ante ≤ stack) }
     ensures said { Gives (λ ante. ante) result (ante_said stack place (view value.now)) }
 {
@@ -143,7 +143,7 @@ pub fn read_rakes(value: &Value) -> Result<RakeRow, ReadError<FieldFault>>
     ensures said { Gives (λ row. row.rakes) result (rakes_said (view value.now)) }
     ensures most { IfOk result (λ row. (pot : ℕ) → rake_of row pot ≤ MOST_AMOUNT) }
 {
-    let place = FieldPlace::at_key(FieldKey::Rakes);
+    let place = FieldLocation::at_key(FieldKey::Rakes);
     let values = read_list(value, place)?;
     if !has_count(values, 0, 11) {
         return Err(field_fault_at(FieldFaultKind::ListLength, place));
@@ -165,7 +165,7 @@ fn read_each_rake(values: &[Value]) -> Result<[u64; 11], ReadError<FieldFault>>
 {
     let mut rakes = [0; 11];
     for (index, value) in values.iter().enumerate() {
-        let place = FieldPlace {
+        let place = FieldLocation {
             key: FieldKey::Rakes,
             item: index as u64 + 1,
         };

@@ -9,7 +9,7 @@ ghost use Rattle.phh_reading.specs.Fields as fields;
 ghost use Rattle.phh_reading.specs.NoteFields.{AreNames, names_from, names_said, numbers_from, plain_seating, seat_count_said, seating_said, seats_said, text_note_said};
 ghost use Rattle.chip_ledger.specs.SeatsSaid.{default_name};
 
-use crate::field_fault::{FieldFault, FieldKey, FieldPlace};
+use crate::field_fault::{FieldFault, FieldKey, FieldLocation};
 use crate::texts::read_text_note;
 use crate::values::{field, read_items, read_number};
 use card_set::try_format;
@@ -101,7 +101,7 @@ fn read_name(alloc: Global, value: &Value, seat: u8) -> Result<Option<Text>, Rea
         (text_note_said (default_name seat) (at_item keys.Players seat) (view value.now)) }
     ensures allowed { IfOk result (λ name. IfSome name (IsName seat)) }
 {
-    let place = FieldPlace {
+    let place = FieldLocation {
         key: FieldKey::Players,
         item: u64::from(seat),
     };
@@ -139,7 +139,7 @@ fn fill_numbers(values: &[Value]) -> Result<[u8; 10], ReadError<FieldFault>>
 {
     let mut numbers = [0; 10];
     for (index, value) in values.iter().enumerate() {
-        let place = FieldPlace {
+        let place = FieldLocation {
             key: FieldKey::Seats,
             item: index as u64 + 1,
         };
@@ -159,7 +159,7 @@ fn read_seat_count(table: &Table, players: PlayerCount) -> Result<Option<u8>, Re
     let Some(value) = field(table, FieldKey::SeatCount) else {
         return Ok(None);
     };
-    let count = read_number(value, 1, 255, FieldPlace::at_key(FieldKey::SeatCount))? as u8;
+    let count = read_number(value, 1, 255, FieldLocation::at_key(FieldKey::SeatCount))? as u8;
     if count == players.number {
         Ok(None)
     } else {

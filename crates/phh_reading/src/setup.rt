@@ -12,7 +12,7 @@ ghost use Rattle.hand_records.specs.PlainHands.{plain_setup};
 ghost use Rattle.phh_reading.specs.SetupFields.{blinds_said, game_named, setup_said, trimming_said, variant_said};
 ghost use Rattle.phh_reading.specs.SetupFields as setup_fields;
 
-use crate::field_fault::{FieldFault, FieldFaultKind, FieldKey, FieldPlace};
+use crate::field_fault::{FieldFault, FieldFaultKind, FieldKey, FieldLocation};
 use crate::rows::{heads_up_swapped, read_antes, read_row, read_stacks};
 use crate::sizes::read_sizes;
 use crate::values::{field, field_fault_at, read_flag, read_text, required};
@@ -62,7 +62,7 @@ pub fn read_setup(table: &Table) -> Result<Setup, ReadError<FieldFault>>
 fn read_variant(value: &Value) -> Result<Code, ReadError<FieldFault>>
     ensures { Gives (λ code. code) result (variant_said (view value.now)) }
 {
-    let place = FieldPlace::at_key(FieldKey::Variant);
+    let place = FieldLocation::at_key(FieldKey::Variant);
     match game(read_text(value, place)?) {
         Some(code) => Ok(code),
         None => Err(field_fault_at(FieldFaultKind::UnknownVariant, place)),
@@ -82,7 +82,7 @@ fn read_trimming(table: &Table) -> Result<bool, ReadError<FieldFault>>
     ensures { Gives (λ trimmed. trimmed) result (trimming_said (table_view table.now)) }
 {
     match field(table, FieldKey::AnteTrimmingStatus) {
-        Some(value) => read_flag(value, FieldPlace::at_key(FieldKey::AnteTrimmingStatus)),
+        Some(value) => read_flag(value, FieldLocation::at_key(FieldKey::AnteTrimmingStatus)),
         None => Ok(false),
     }
 }

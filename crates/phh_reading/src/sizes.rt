@@ -6,7 +6,7 @@ ghost use Rattle.play_event.specs.ValidSetup.{IsSizeWhere, is_fixed};
 ghost use Rattle.first_fault.specs.Reading.{Gives};
 ghost use Rattle.phh_reading.specs.SetupFields.{size_said, sizes_said};
 
-use crate::field_fault::{FieldFault, FieldKey, FieldPlace};
+use crate::field_fault::{FieldFault, FieldKey, FieldLocation};
 use crate::values::{read_amount, required};
 use chip_ledger::MOST_CHIPS;
 use first_fault::ReadError;
@@ -52,6 +52,6 @@ fn read_size(table: &Table, used: bool, key: FieldKey) -> Result<u64, ReadError<
         required(table, key)?,
         1,
         MOST_CHIPS,
-        FieldPlace::at_key(key),
+        FieldLocation::at_key(key),
     )
 }

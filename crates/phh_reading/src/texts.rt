@@ -6,7 +6,7 @@ ghost use Rattle.first_fault.specs.Reading.{Gives};
 ghost use Rattle.phh_reading.specs.Fields.{fault_at};
 ghost use Rattle.phh_reading.specs.NoteFields.{label_said, text_note_said};
 
-use crate::field_fault::{FieldFault, FieldFaultKind, FieldPlace};
+use crate::field_fault::{FieldFault, FieldFaultKind, FieldLocation};
 use crate::values::{field_fault_at, read_text};
 use card_set::displayed;
 use first_fault::{Quantity, ReadError, Text};
@@ -20,7 +20,7 @@ pub fn read_text_note(
     alloc: Global,
     value: &Value,
     default: &str,
-    place: FieldPlace,
+    place: FieldLocation,
 ) -> Result<Option<Text>, ReadError<FieldFault>>
     ensures said { Gives (λ note. note) result
         (text_note_said default.now place (view value.now)) }
@@ -35,7 +35,7 @@ pub fn read_label(
     alloc: Global,
     value: &Value,
     default: &str,
-    place: FieldPlace,
+    place: FieldLocation,
 ) -> Result<Option<Text>, ReadError<FieldFault>>
     ensures said { Gives (λ note. note) result (label_said default.now place (view value.now)) }
     ensures allowed { IfOk result (λ note. IfSome note (IsUnusualNote default.now)) }
@@ -51,7 +51,7 @@ pub fn read_label(
 }
 
 // The fault of a text that is too long for a note.
-fn too_long(place: FieldPlace) -> FieldFault
+fn too_long(place: FieldLocation) -> FieldFault
     ensures { result ≡ fault_at (FieldFaultKind.TooMany Quantity.TextBytes) place }
 {
     let quantity = Quantity::TextBytes;

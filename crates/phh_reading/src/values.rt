@@ -5,7 +5,7 @@ ghost use Rattle.first_fault.specs.Reading.{Gives};
 ghost use Rattle.phh_reading.specs.Fields.{amount_said, flag_said, items_said, list_said, listed, number_said, text_said};
 ghost use Rattle.phh_reading.specs.Fields as fields;
 
-use crate::field_fault::{FieldFault, FieldFaultKind, FieldKey, FieldPlace};
+use crate::field_fault::{FieldFault, FieldFaultKind, FieldKey, FieldLocation};
 use first_fault::{ReadError, in_range};
 use toml::{Table, Value};
 
@@ -16,7 +16,7 @@ pub fn required<'a>(table: &'a Table, key: FieldKey) -> Result<&'a Value, ReadEr
 {
     match field(table, key) {
         Some(value) => Ok(value),
-        None => Err(field_fault_at(FieldFaultKind::MissingField, FieldPlace::at_key(key))),
+        None => Err(field_fault_at(FieldFaultKind::MissingField, FieldLocation::at_key(key))),
     }
 }
 
@@ -30,7 +30,7 @@ pub fn field<'a>(table: &'a Table, key: FieldKey) -> Option<&'a Value>
 
 /// A text.
 #[tactic(auto, unfolding(crate::specs::Fields::text_said))]
-pub fn read_text(value: &Value, place: FieldPlace) -> Result<&str, ReadError<FieldFault>>
+pub fn read_text(value: &Value, place: FieldLocation) -> Result<&str, ReadError<FieldFault>>
     ensures { Gives (λ text. text.now) result (text_said place (view value.now)) }
 {
     match value {
@@ -41,7 +41,7 @@ pub fn read_text(value: &Value, place: FieldPlace) -> Result<&str, ReadError<Fie
 
 /// A truth value.
 #[tactic(auto, unfolding(crate::specs::Fields::flag_said))]
-pub fn read_flag(value: &Value, place: FieldPlace) -> Result<bool, ReadError<FieldFault>>
+pub fn read_flag(value: &Value, place: FieldLocation) -> Result<bool, ReadError<FieldFault>>
     ensures { Gives (λ flag. flag) result (flag_said place (view value.now)) }
 {
     match value {
@@ -61,7 +61,7 @@ pub fn read_items(
         (items_said seats key (view value.now)) }
     ensures count { IfOk result (λ values. length values.now.items ≡ seats) }
 {
-    let place = FieldPlace::at_key(key);
+    let place = FieldLocation::at_key(key);
     let values = read_list(value, place)?;
     if values.len() != seats as usize {
         return Err(field_fault_at(FieldFaultKind::ListLength, place));
@@ -71,7 +71,7 @@ pub fn read_items(
 
 /// The values of a list.
 #[tactic(auto, using(crate::proofs::Lists::listed_view))]
-pub fn read_list(value: &Value, place: FieldPlace) -> Result<&Vec<Value>, ReadError<FieldFault>>
+pub fn read_list(value: &Value, place: FieldLocation) -> Result<&Vec<Value>, ReadError<FieldFault>>
     ensures { Gives (λ values. map view values.now.items) result
         (list_said place (view value.now)) }
 {
@@ -81,7 +81,7 @@ pub fn read_list(value: &Value, place: FieldPlace) -> Result<&Vec<Value>, ReadEr
 
 // A list.
 #[tactic(auto, unfolding(crate::specs::Fields::list_said))]
-fn read_array(value: &Value, place: FieldPlace) -> Result<&Vec<Value>, ReadError<FieldFault>>
+fn read_array(value: &Value, place: FieldLocation) -> Result<&Vec<Value>, ReadError<FieldFault>>
     ensures { Gives (λ values. listed (array_view values.now)) result
         (list_said place (view value.now)) }
 {
@@ -97,7 +97,7 @@ pub fn read_amount(
     value: &Value,
     least: u64,
     most: u64,
-    place: FieldPlace,
+    place: FieldLocation,
 ) -> Result<u64, ReadError<FieldFault>>
     ensures within { IfOk result (λ amount. (least ≤ amount) × (amount ≤ most)) }
     ensures said { Gives (λ amount. amount) result
@@ -115,7 +115,7 @@ pub fn read_number(
     value: &Value,
     least: u64,
     most: u64,
-    place: FieldPlace,
+    place: FieldLocation,
 ) -> Result<u64, ReadError<FieldFault>>
     ensures within { IfOk result (λ number. (least ≤ number) × (number ≤ most)) }
     ensures said { Gives (λ number. number) result
@@ -132,7 +132,7 @@ pub fn read_number(
 }
 
 /// A fault at a place.
-pub fn field_fault_at(what: FieldFaultKind, place: FieldPlace) -> ReadError<FieldFault>
+pub fn field_fault_at(what: FieldFaultKind, place: FieldLocation) -> ReadError<FieldFault>
     ensures { result ≡ ReadError.Fault (record { what = what; place = place }) }
 {
     ReadError::Fault(FieldFault { what, place })

@@ -7,7 +7,7 @@ use Rattle.card_set.proofs.Numbers.{different_number, eq_true_both}
 use Rattle.card_set.proofs.Tests.{and_false, false_true}
 use Rattle.card_set.specs.declared.card.Slot.{Slot}
 use Rattle.card_set.specs.declared.card.Slot.TheVariants as slots
-use Rattle.card_set.specs.Deck.{deck_place}
+use Rattle.card_set.specs.Deck.{deck_index}
 use Rattle.play_event.specs.declared.code.Code.{Code}
 use Rattle.play_event.specs.Places.{Place, places_dealt, after_deal, is_past_deck, is_in_group}
 use Rattle.play_event.specs.Taken.{is_clash, may_repeat, is_gone_before, is_one_card, slot_is_card, is_in_deck, is_taken, has_repeat, is_repeated, has_taken_card, has_misplaced_card, is_misplaced, is_not_in_deck, newly_known}
@@ -15,7 +15,7 @@ use Rattle.play_event.specs.Laws.{IsAmong, NoneClash}
 use Rattle.play_event.proofs.Kept.{AreKept, ComesFrom, comes_from, clash_kept}
 
 one_card_both : (a b : Slot) → is_one_card a b ≡ is_one_card b a
-one_card_both (slots.Known a) (slots.Known b) = sym (eq_true_both (deck_place a) (deck_place b) (deck_place a == deck_place b) refl)
+one_card_both (slots.Known a) (slots.Known b) = sym (eq_true_both (deck_index a) (deck_index b) (deck_index a == deck_index b) refl)
 one_card_both (slots.Known a) slots.Unknown = refl
 one_card_both slots.Unknown (slots.Known b) = refl
 one_card_both slots.Unknown slots.Unknown = refl

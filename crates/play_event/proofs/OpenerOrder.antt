@@ -2,12 +2,12 @@
 use Rattle.std.proofs.Common.{◌≡◌, ℕ, ◌<◌, Bool, true, false, ◌&&◌, ◌||◌, ◌==◌, nat_lt, inl, inr, ◌⊎◌, List, [], ◌∷◌, refl, sym, ◌∙◌, arith}
 use Rattle.std.proofs.lemmas.Bool.{true≢false, or_left, or_right, or_from, or_cases, and_parts, and_from, lt-ltb, ltb-true, le-ltb, eqb-true, eq-eqb, and_right}
 use Rattle.card_set.specs.declared.card.Card.{Card}
-use Rattle.card_set.specs.Deck.{deck_place}
+use Rattle.card_set.specs.Deck.{deck_index}
 use Rattle.card_set.specs.Ranks.{high_ace, low_ace, ranks_of}
 use Rattle.card_set.specs.UpCards.{up_high_class, low_class}
 use Rattle.play_event.specs.declared.limit.Opener.{Opener}
 use Rattle.play_event.specs.declared.limit.Opener.TheVariants.{Blinds, LowUp, HighUp}
-use Rattle.play_event.specs.Openers.{is_lower, is_opener_before, card_stands, razz_place}
+use Rattle.play_event.specs.Openers.{is_lower, is_opener_before, card_stands, razz_order}
 use Rattle.card_set.proofs.Numbers.{less_trans}
 
 -- lists of heights
@@ -33,8 +33,8 @@ lower_trans (x ∷ xs) (y ∷ ys) (z ∷ zs) p q =
 
 -- no seat acts before itself
 pub opens_not : (opener : Opener) (first : Bool) (a : List Card) → is_opener_before opener first a a ≡ false
-opens_not LowUp true a = le-ltb (card_stands deck_place a) (card_stands deck_place a) (omega arith)
-opens_not HighUp true a = le-ltb (card_stands razz_place a) (card_stands razz_place a) (omega arith)
+opens_not LowUp true a = le-ltb (card_stands deck_index a) (card_stands deck_index a) (omega arith)
+opens_not HighUp true a = le-ltb (card_stands razz_order a) (card_stands razz_order a) (omega arith)
 opens_not LowUp false a = or_from (nat_lt (up_high_class a) (up_high_class a)) ((up_high_class a == up_high_class a) && is_lower (ranks_of high_ace a) (ranks_of high_ace a)) (le-ltb (up_high_class a) (up_high_class a) (omega arith)) (and_right (up_high_class a == up_high_class a) (is_lower (ranks_of high_ace a) (ranks_of high_ace a)) (lower_not (ranks_of high_ace a)))
 opens_not HighUp false a = or_from (nat_lt (low_class a) (low_class a)) ((low_class a == low_class a) && is_lower (ranks_of low_ace a) (ranks_of low_ace a)) (le-ltb (low_class a) (low_class a) (omega arith)) (and_right (low_class a == low_class a) (is_lower (ranks_of low_ace a) (ranks_of low_ace a)) (lower_not (ranks_of low_ace a)))
 opens_not Blinds first a = refl
@@ -54,8 +54,8 @@ worse_trans ca cb cc l m n trans p q = worse_step ca cb cc l m n trans (or_cases
 
 -- if one seat acts before a second and that before a third, the first acts before the third
 pub opens_trans : (opener : Opener) (first : Bool) (a b c : List Card) → is_opener_before opener first a b ≡ true → is_opener_before opener first b c ≡ true → is_opener_before opener first a c ≡ true
-opens_trans LowUp true a b c p q = less_trans (card_stands deck_place a) (card_stands deck_place b) (card_stands deck_place c) p q
-opens_trans HighUp true a b c p q = less_trans (card_stands razz_place c) (card_stands razz_place b) (card_stands razz_place a) q p
+opens_trans LowUp true a b c p q = less_trans (card_stands deck_index a) (card_stands deck_index b) (card_stands deck_index c) p q
+opens_trans HighUp true a b c p q = less_trans (card_stands razz_order c) (card_stands razz_order b) (card_stands razz_order a) q p
 opens_trans LowUp false a b c p q =
     let heights : List Card → List ℕ = ranks_of high_ace in
     worse_trans (up_high_class a) (up_high_class b) (up_high_class c) (is_lower (heights b) (heights a)) (is_lower (heights c) (heights b)) (is_lower (heights c) (heights a)) (λ x y. lower_trans (heights c) (heights b) (heights a) y x) p q

@@ -93,7 +93,7 @@ stated_and_due stated due = (not (stated == due), reasons.AmountDiffers stated d
 
 -- whether a call states another number of chips than it adds, and the reason for that; no other
 -- event does
-abbrev pub amount_row : Setup → List Move → ℕ → InTurn → Said → Bool × Illegal
-amount_row setup moves street turn (said.Call named (Some stated)) =
+abbrev pub amount_reason : Setup → List Move → ℕ → InTurn → Said → Bool × Illegal
+amount_reason setup moves street turn (said.Call named (Some stated)) =
     stated_and_due stated (chips_to_call setup moves street (actor_of named turn))
-amount_row setup moves street turn _ = (false, reasons.AmountDiffers 0 0)
+amount_reason setup moves street turn _ = (false, reasons.AmountDiffers 0 0)

@@ -3,7 +3,7 @@ use Rattle.std.specs.Prelude.{ℕ, ◌+◌, ◌*◌, Bool, true, false, ◌&&◌
 use Rattle.std.specs.List.{list_any}
 use Rattle.card_set.specs.declared.card.Card.{Card}
 use Rattle.card_set.specs.declared.card.Slot.{Slot}
-use Rattle.card_set.specs.Deck.{deck_place, suits_before}
+use Rattle.card_set.specs.Deck.{deck_index, suits_before}
 use Rattle.card_set.specs.Known.{is_unknown, known_cards}
 use Rattle.card_set.specs.Ranks.{high_ace, low_ace, ranks_of}
 use Rattle.card_set.specs.UpCards.{up_high_class, low_class}
@@ -61,8 +61,8 @@ card_stands stands [] = 0
 card_stands stands (card ∷ rest) = stands card
 
 -- the place of an up-card in razz: the ace is low, and suits break ties
-abbrev pub razz_place : Card → ℕ
-razz_place card = 4 * low_ace card.rank + suits_before card.suit
+abbrev pub razz_order : Card → ℕ
+razz_order card = 4 * low_ace card.rank + suits_before card.suit
 
 -- where the lists first differ, the left one is lower
 abbrev pub is_lower : List ℕ → List ℕ → Bool
@@ -91,9 +91,9 @@ is_weaker_low cards others =
 -- first, in razz the highest; on a later street the best cards act first, in razz the lowest.
 abbrev pub is_opener_before : Opener → Bool → List Card → List Card → Bool
 is_opener_before openers.LowUp true cards others =
-    nat_lt (card_stands deck_place cards) (card_stands deck_place others)
+    nat_lt (card_stands deck_index cards) (card_stands deck_index others)
 is_opener_before openers.HighUp true cards others =
-    nat_lt (card_stands razz_place others) (card_stands razz_place cards)
+    nat_lt (card_stands razz_order others) (card_stands razz_order cards)
 is_opener_before openers.LowUp false cards others = is_weaker_up_high others cards
 is_opener_before openers.HighUp false cards others = is_weaker_low others cards
 is_opener_before openers.Blinds first cards others = false

@@ -4,7 +4,7 @@ use Rattle.std.specs.Int.{w32, w64, to_be_bytes}
 use Rattle.card_set.specs.declared.card.Card.{Card}
 use Rattle.card_set.specs.declared.card.Slot.{Slot}
 use Rattle.card_set.specs.declared.card.Slot.TheVariants as slots
-use Rattle.card_set.specs.Deck.{deck_place}
+use Rattle.card_set.specs.Deck.{deck_index}
 use Rattle.card_set.specs.Row.{slots_of, cards_of}
 use Rattle.chip_ledger.specs.declared.numbers.Seat.{Seat}
 use Rattle.play_event.specs.declared.event.Event.{Event}
@@ -28,7 +28,7 @@ actor_byte (Some seat) = seat.number
 
 -- a card: its place in the deck, from 1 to 52
 abbrev pub card_byte : Card → ℕ
-card_byte card = deck_place card + 1
+card_byte card = deck_index card + 1
 
 -- a slot: its card, or 0 if that is unknown
 abbrev pub slot_byte : Slot → ℕ

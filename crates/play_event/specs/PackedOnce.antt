@@ -17,7 +17,7 @@ use Rattle.card_set.specs.declared.card.Slot.{Slot}
 use Rattle.card_set.specs.declared.card.Slot.TheVariants as slots
 use Rattle.card_set.specs.declared.row.SlotRow.{SlotRow}
 use Rattle.card_set.specs.declared.row.CardRow.{CardRow}
-use Rattle.card_set.specs.Deck.{ranks_below, suits_before, card_placed, all_ranks, all_suits}
+use Rattle.card_set.specs.Deck.{ranks_below, suits_before, card_with_index, all_ranks, all_suits}
 use Rattle.card_set.specs.Row.{slots_of, cards_of}
 use Rattle.card_set.proofs.DeckLaws.{suits_before-few}
 use Rattle.card_set.proofs.RowLaws.{slots_same, cards_same}
@@ -48,7 +48,7 @@ suit_again _ = refl
 
 -- a card
 card_again : (card : Card) → card_of (card_byte card) ≡ card
-unfolding card_placed
+unfolding card_with_index
 card_again card =
     let few = suits_before-few card.suit in
     let quotient : (card_byte card - 1) / 4 ≡ ranks_below card.rank = omega arith in

@@ -4,7 +4,7 @@ use Rattle.std.specs.Int.{Width, w32, w64, byte_len, from_be_bytes}
 use Rattle.card_set.specs.declared.card.Card.{Card}
 use Rattle.card_set.specs.declared.card.Slot.{Slot}
 use Rattle.card_set.specs.declared.card.Slot.TheVariants as slots
-use Rattle.card_set.specs.Deck.{card_placed}
+use Rattle.card_set.specs.Deck.{card_with_index}
 use Rattle.play_event.specs.declared.event.Spelled.{Spelled}
 use Rattle.play_event.specs.declared.event.Spelled.TheVariants as spelled
 use Rattle.play_event.specs.Said as said
@@ -56,7 +56,7 @@ actor_at bytes = do
 
 -- the card of a byte from 1 to 52: its place in the deck, counted from 1
 abbrev pub card_of : ℕ → Card
-card_of byte = card_placed (byte - 1)
+card_of byte = card_with_index (byte - 1)
 
 -- the slot of a byte: 0 is an unknown card
 abbrev pub slot_of : ℕ → Slot

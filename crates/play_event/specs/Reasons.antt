@@ -17,7 +17,7 @@ use Rattle.play_event.specs.PlayerToAct.{player_to_act}
 use Rattle.play_event.specs.Places.{Place}
 use Rattle.play_event.specs.Table.{places_of, up_cards}
 use Rattle.play_event.specs.CardReasons.{is_owed_nothing, is_next_to_draw, may_show, is_wrong_count, is_card_taken, is_not_held}
-use Rattle.play_event.specs.MoveReasons.{is_other_seat, is_undecided_move, has_nothing_to_call, is_raise_closed, is_raise_too_small, is_raise_too_big, amount_row}
+use Rattle.play_event.specs.MoveReasons.{is_other_seat, is_undecided_move, has_nothing_to_call, is_raise_closed, is_raise_too_small, is_raise_too_big, amount_reason}
 
 -- the first reason whose condition holds, if one does
 abbrev pub first_reason : List (Bool × Illegal) → Option Illegal
@@ -104,7 +104,7 @@ reasons_by setup rules past street in_turn placed event =
     ∷ (is_raise_closed setup rules moves street in_turn event, reasons.RaiseClosed)
     ∷ (is_raise_too_small setup rules moves street in_turn event, reasons.RaiseTooSmall)
     ∷ (is_raise_too_big setup moves street in_turn event, reasons.RaiseTooBig)
-    ∷ amount_row setup moves street in_turn event
+    ∷ amount_reason setup moves street in_turn event
     ∷ []
 
 -- the remaining reasons for an event of a kind that may come, on this street

@@ -7,7 +7,7 @@ ghost use Rattle.play_event.specs.PackedForm.{actor_byte, card_byte, slot_byte, 
 
 use crate::event::{Event, Kind, Spelled};
 use crate::packed_event::PackedEvent;
-use card_set::{Card, Memory, Slot, place_in_deck, reserve};
+use card_set::{Card, Memory, Slot, index_in_deck, reserve};
 use chip_ledger::Seat;
 
 // Enough bytes for the events of most hands.
@@ -149,5 +149,5 @@ fn pack_cards(packed: &mut PackedEvent, cards: &[Card])
 fn number_of_card(card: Card) -> u8
     ensures { result ≡ card_byte card }
 {
-    place_in_deck(card) + 1
+    index_in_deck(card) + 1
 }

@@ -5,7 +5,7 @@ use Rattle.std.proofs.lemmas.List.Sums.{length-filter}
 use Rattle.card_set.specs.declared.card.Card.{Card}
 use Rattle.card_set.specs.declared.card.Slot.{Slot}
 use Rattle.card_set.specs.declared.card.Slot.TheVariants as slots
-use Rattle.card_set.specs.Deck.{is_same_card, deck_place}
+use Rattle.card_set.specs.Deck.{is_same_card, deck_index}
 use Rattle.card_set.specs.Known.{is_unknown, known_cards}
 use Rattle.play_event.specs.Places.{Place, is_held_by}
 use Rattle.play_event.specs.NameMatching.{without_name, unmatched_names, is_named, matched_card, after_matching, after_discard, discarded_now, blanks_in, is_known_and_named, named_count, unknown_count}
@@ -46,7 +46,7 @@ other_named card other (name ∷ rest) differ = by_first (is_same_card card name
     by_first false same later = ap (λ b. is_same_card other name || b) later
     by_first true same later =
         let not_it : is_same_card other name ≡ false = false_from_ne_true (is_same_card other name) (λ now.
-        both_ways (is_same_card card other) differ (eq-eqb (deck_place card) (deck_place other) (eqb-true (deck_place card) (deck_place name) same ∙ sym (eqb-true (deck_place other) (deck_place name) now)))) in
+        both_ways (is_same_card card other) differ (eq-eqb (deck_index card) (deck_index other) (eqb-true (deck_index card) (deck_index name) same ∙ sym (eqb-true (deck_index other) (deck_index name) now)))) in
         sym (ap (λ b. b || is_named other rest) not_it)
 
 one_same : (card : Card) (names : List Card) (slot : Slot) → is_one_card (slots.Known card) slot ≡ false → ◌≡◌ {A = ℕ} (if is_known_and_named (without_name (slots.Known card) names) slot then 1 else 0) (if is_known_and_named names slot then 1 else 0)

@@ -19,7 +19,7 @@ use Rattle.play_event.specs.PlayerToAct.{player_to_act}
 use Rattle.play_event.specs.CurrentBet.{to_call}
 use Rattle.play_event.specs.Raising.{may_raise}
 use Rattle.play_event.specs.Table.{up_cards}
-use Rattle.play_event.specs.MoveReasons.{actor_of, is_other_seat, is_undecided, has_nothing_to_call, is_raise_closed, is_raise_too_small, is_raise_too_big, is_below_targets, is_above_targets, amount_row}
+use Rattle.play_event.specs.MoveReasons.{actor_of, is_other_seat, is_undecided, has_nothing_to_call, is_raise_closed, is_raise_too_small, is_raise_too_big, is_below_targets, is_above_targets, amount_reason}
 use Rattle.play_event.specs.Reasons.{why, first_reason, is_over, is_due_kind}
 use Rattle.play_event.specs.Scripts.{resolved_by}
 use Rattle.play_event.specs.Laws.{NoneHold}
@@ -48,7 +48,7 @@ move_reasons setup rules moves now in_turn event =
     ∷ (is_raise_closed setup rules moves now.0 in_turn event, reasons.RaiseClosed)
     ∷ (is_raise_too_small setup rules moves now.0 in_turn event, reasons.RaiseTooSmall)
     ∷ (is_raise_too_big setup moves now.0 in_turn event, reasons.RaiseTooBig)
-    ∷ amount_row setup moves now.0 in_turn event
+    ∷ amount_reason setup moves now.0 in_turn event
     ∷ []
 
 -- why a move is illegal depends on them alone

@@ -2,7 +2,7 @@
 use Rattle.std.proofs.Common.{◌≡◌, ℕ, Bool, true, false, ◌&&◌, ◌||◌, not, Option, Some, None, List, [], ◌∷◌, refl, sym, ◌∙◌, ap}
 use Rattle.play_event.specs.Due.{turn}
 use Rattle.play_event.specs.Laws.{IsInTurn}
-use Rattle.play_event.specs.MoveReasons.{actor_of, amount_row, has_nothing_to_call, is_above_targets, is_below_targets, is_other_seat, is_raise_closed, is_raise_too_big, is_raise_too_small, is_undecided}
+use Rattle.play_event.specs.MoveReasons.{actor_of, amount_reason, has_nothing_to_call, is_above_targets, is_below_targets, is_other_seat, is_raise_closed, is_raise_too_big, is_raise_too_small, is_undecided}
 use Rattle.play_event.specs.Openers.{InTurn, TheSeat}
 use Rattle.play_event.specs.Past as pasts
 use Rattle.play_event.specs.Past.{Move, Past, moves_of}
@@ -37,7 +37,7 @@ refused setup rules moves now in_turn event comes other =
     ∷ (is_raise_closed setup rules moves now.0 in_turn event, reasons.RaiseClosed)
     ∷ (is_raise_too_small setup rules moves now.0 in_turn event, reasons.RaiseTooSmall)
     ∷ (is_raise_too_big setup moves now.0 in_turn event, reasons.RaiseTooBig)
-    ∷ amount_row setup moves now.0 in_turn event
+    ∷ amount_reason setup moves now.0 in_turn event
     ∷ [])
 
 -- two moves of one kind, one naming the player to act and one naming no seat, are illegal for the

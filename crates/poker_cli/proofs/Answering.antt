@@ -28,7 +28,7 @@ use Rattle.poker_cli.specs.AnswerParts.{Answer, IsAnswerTo, done, most_input, to
 use Rattle.poker_cli.specs.Convert.{IsWritten}
 use Rattle.poker_cli.specs.Each.{IsAnswerOfEach}
 use Rattle.poker_cli.specs.Files.{Files, FilesByName}
-use Rattle.poker_cli.specs.GameFiles.{GivesGame, GivesNoGame, IsGameFileErrorTold, Lacks}
+use Rattle.poker_cli.specs.GameFiles.{GivesGame, GivesNoGame, IsGameFileErrorAnswer, Lacks}
 use Rattle.poker_cli.specs.Judge.{IsJudgement}
 use Rattle.poker_cli.specs.Answer as answers
 use Rattle.poker_cli.specs.AnswerParts as parts
@@ -37,12 +37,12 @@ use Rattle.poker_cli.specs.Each as each_said
 use Rattle.poker_cli.specs.GameFiles as game_files
 use Rattle.poker_cli.specs.Judge as in_judge
 use Rattle.poker_cli.specs.Texts.{IsTextOf}
-use Rattle.poker_cli.specs.Told.{IsToldOf, IsToldText, answer_told}
+use Rattle.poker_cli.specs.FaultAnswers.{IsFaultAnswer, IsTextAnswer, answer_said}
 use Rattle.poker_cli.specs.declared.answer.Answer as made
 use Rattle.poker_cli.specs.declared.no_answer.NoAnswerError.{NoAnswerError}
 use Rattle.poker_cli.specs.declared.game_files.GameFileError.{GameFileError}
 use Rattle.poker_cli.specs.declared.game_files.GameFileError.TheVariants as lacks
-use Rattle.poker_cli.specs.Run.{AsksForFile, Ends, EndsLeaving, IsFileMissing, IsGameMissing, IsOwn, IsWithoutFile, MayEnd, OfBytes, OfFile, ReadsHands, Sinks, TellsLine, Writes, WhereTold, line_of}
+use Rattle.poker_cli.specs.Run.{AsksForFile, Ends, EndsLeaving, IsFileMissing, IsGameMissing, IsOwn, IsWithoutFile, MayEnd, OfBytes, OfFile, ReadsHands, Sinks, PrintsLine, Writes, WhereShown, line_of}
 use Rattle.poker_cli.specs.declared.status.Status.{Status}
 use Rattle.poker_cli.specs.declared.status.Status.TheVariants as statuses
 use Rattle.convert_core.specs.declared.format.Format.{Format}
@@ -69,17 +69,17 @@ answer_beyond command reader left answer many is =
 
 -- an answer that is given unless memory ran out
 pub given_unless : (out : Bool) (made answer : Answer) → (if out then None else Some made) ≡ Some answer → (out ≡ false) × (made ≡ answer)
-given_unless true made answer told = absurd (cc (told))
-given_unless false made answer told = (refl, same_Some _ _ told)
+given_unless true made answer shown = absurd (cc (shown))
+given_unless false made answer shown = (refl, same_Some _ _ shown)
 
 -- the answer to a fault
 pub is_to_unread : (fault : FormatFault) (answer : Answer) → to_fault fault ≡ Some answer → to_unread fault (excess_of fault) ≡ answer
-is_to_unread fault answer told = (given_unless (is_out_of_memory fault) (to_unread fault (excess_of fault)) answer told).1
+is_to_unread fault answer shown = (given_unless (is_out_of_memory fault) (to_unread fault (excess_of fault)) answer shown).1
 
 -- running out of memory is not reported as a fault
 no_memory : (fault : FormatFault) (answer : Answer) → to_fault fault ≡ Some answer → is_out_of_memory fault ≡ true → ⊥
-no_memory fault answer told memory =
-    let other = (given_unless (is_out_of_memory fault) (to_unread fault (excess_of fault)) answer told).0 in
+no_memory fault answer shown memory =
+    let other = (given_unless (is_out_of_memory fault) (to_unread fault (excess_of fault)) answer shown).0 in
     cc (other, memory)
 
 module _ (Say : List Record → Type 0) (HaveFault : FormatFault → Type 0) where
@@ -87,65 +87,65 @@ module _ (Say : List Record → Type 0) (HaveFault : FormatFault → Type 0) whe
     -- bytes that cannot be read
     pub answer_unread : (fault : FormatFault) → (is_out_of_memory fault ≡ true) ⊎ HaveFault fault → to_fault fault ≡ Some answer
         → IsAnswerTo Say HaveFault IsMade answer
-    answer_unread fault (inl memory) told = absurd (no_memory fault answer told memory)
-    answer_unread fault (inr have) told = parts.Unread fault have answer told
+    answer_unread fault (inl memory) shown = absurd (no_memory fault answer shown memory)
+    answer_unread fault (inr have) shown = parts.Unread fault have answer shown
 
     -- a hand is refused
     pub answer_refused : (number : ℕ) (why : Refusal) → ReadAsRefused Say number why → answer ≡ to_refusal number why
         → IsAnswerTo Say HaveFault IsMade answer
-    answer_refused number why is told = subst (IsAnswerTo Say HaveFault IsMade) (sym told) (parts.Refused number why is)
+    answer_refused number why is shown = subst (IsAnswerTo Say HaveFault IsMade) (sym shown) (parts.Refused number why is)
 
     -- bytes have no plays
-    pub answer_unplayed : (fault : ConvertFault) → IsPlaysRefusal Say HaveFault fault → IsToldOf fault answer → IsAnswerTo Say HaveFault IsMade answer
-    answer_unplayed (convert_faults.Format fault) have told = parts.Unread fault have answer told
-    answer_unplayed (convert_faults.Refused number why) is told = answer_refused number why is told
-    answer_unplayed (convert_faults.Unspelled number fact) is told = absurd is
-    answer_unplayed (convert_faults.Memory memory) is told = absurd told
+    pub answer_unplayed : (fault : ConvertFault) → IsPlaysRefusal Say HaveFault fault → IsFaultAnswer fault answer → IsAnswerTo Say HaveFault IsMade answer
+    answer_unplayed (convert_faults.Format fault) have shown = parts.Unread fault have answer shown
+    answer_unplayed (convert_faults.Refused number why) is shown = answer_refused number why is shown
+    answer_unplayed (convert_faults.Unspelled number fact) is shown = absurd is
+    answer_unplayed (convert_faults.Memory memory) is shown = absurd shown
 
   -- bytes that cannot be read have no hands
   pub answer_wrong : (IsMade : List Play → Answer → Type 0) (answer : Answer) (fault : ConvertFault) → IsReadFault HaveFault fault
-      → IsToldOf fault answer → IsAnswerTo Say HaveFault IsMade answer
-  answer_wrong IsMade answer (convert_faults.Format fault) have told = parts.Unread fault have answer told
-  answer_wrong IsMade answer (convert_faults.Refused number why) have told = absurd have
-  answer_wrong IsMade answer (convert_faults.Unspelled number fact) have told = absurd have
-  answer_wrong IsMade answer (convert_faults.Memory memory) have told = absurd told
+      → IsFaultAnswer fault answer → IsAnswerTo Say HaveFault IsMade answer
+  answer_wrong IsMade answer (convert_faults.Format fault) have shown = parts.Unread fault have answer shown
+  answer_wrong IsMade answer (convert_faults.Refused number why) have shown = absurd have
+  answer_wrong IsMade answer (convert_faults.Unspelled number fact) have shown = absurd have
+  answer_wrong IsMade answer (convert_faults.Memory memory) have shown = absurd shown
 
   -- what is printed for the hands, or the first refused one
   pub answer_printed : (printed : List Play → List ℕ) (records : List Record) → Say records → (text : Result (String Global) PlaysFault) (answer : Answer)
-      → IfOk text (λ some. IsTextOf printed records (string_bytes some)) → IfErr text (IsPlaysFaultOf records) → IsToldText text answer
-      → IsAnswerTo Say HaveFault (λ plays told. told ≡ done (printed plays)) answer
-  answer_printed printed records say (Ok text) answer is refused told =
-      parts.Played is.plays (record { records = records; say = say; are = is.are }) answer (told ∙ ap done is.said)
-  answer_printed printed records say (Err (plays_faults.Refused number why)) answer is refused told =
-      answer_refused (λ plays told. told ≡ done (printed plays)) answer number why (record { records = records; say = say; first = refused }) told
-  answer_printed printed records say (Err (plays_faults.Memory memory)) answer is refused told = absurd told
+      → IfOk text (λ some. IsTextOf printed records (string_bytes some)) → IfErr text (IsPlaysFaultOf records) → IsTextAnswer text answer
+      → IsAnswerTo Say HaveFault (λ plays shown. shown ≡ done (printed plays)) answer
+  answer_printed printed records say (Ok text) answer is refused shown =
+      parts.Played is.plays (record { records = records; say = say; are = is.are }) answer (shown ∙ ap done is.said)
+  answer_printed printed records say (Err (plays_faults.Refused number why)) answer is refused shown =
+      answer_refused (λ plays shown. shown ≡ done (printed plays)) answer number why (record { records = records; say = say; first = refused }) shown
+  answer_printed printed records say (Err (plays_faults.Memory memory)) answer is refused shown = absurd shown
 
   -- and no verdicts
-  pub not_judged : (lines : List ℕ) (answer : Answer) (fault : ConvertFault) → IsReadFault HaveFault fault → IsToldOf fault answer
+  pub not_judged : (lines : List ℕ) (answer : Answer) (fault : ConvertFault) → IsReadFault HaveFault fault → IsFaultAnswer fault answer
       → IsJudgement Say HaveFault lines answer
-  not_judged lines answer (convert_faults.Format fault) have told = in_judge.NotJudged fault have answer told
-  not_judged lines answer (convert_faults.Refused number why) have told = absurd have
-  not_judged lines answer (convert_faults.Unspelled number fact) have told = absurd have
-  not_judged lines answer (convert_faults.Memory memory) have told = absurd told
+  not_judged lines answer (convert_faults.Format fault) have shown = in_judge.NotJudged fault have answer shown
+  not_judged lines answer (convert_faults.Refused number why) have shown = absurd have
+  not_judged lines answer (convert_faults.Unspelled number fact) have shown = absurd have
+  not_judged lines answer (convert_faults.Memory memory) have shown = absurd shown
 
   -- and no hands that answer each by itself
-  pub not_read : (question : EachQuestion) (answer : Answer) (fault : ConvertFault) → IsReadFault HaveFault fault → IsToldOf fault answer
+  pub not_read : (question : EachQuestion) (answer : Answer) (fault : ConvertFault) → IsReadFault HaveFault fault → IsFaultAnswer fault answer
       → IsAnswerOfEach Say HaveFault question answer
-  not_read question answer (convert_faults.Format fault) have told = each_said.NotRead fault have answer told
-  not_read question answer (convert_faults.Refused number why) have told = absurd have
-  not_read question answer (convert_faults.Unspelled number fact) have told = absurd have
-  not_read question answer (convert_faults.Memory memory) have told = absurd told
+  not_read question answer (convert_faults.Format fault) have shown = each_said.NotRead fault have answer shown
+  not_read question answer (convert_faults.Refused number why) have shown = absurd have
+  not_read question answer (convert_faults.Unspelled number fact) have shown = absurd have
+  not_read question answer (convert_faults.Memory memory) have shown = absurd shown
 
   module _ (unspelled : Play → Option Unspelled) (Spell Back : List Play → List ℕ → Type 0) (answer : Answer) where
     -- bytes that cannot be converted
     pub answer_unconverted : {X : Type 0} (view : X → List ℕ) (fault : ConvertFault) → IsConverting Say HaveFault unspelled Spell Back view (Err fault)
-        → IsToldOf fault answer → IsAnswerTo Say HaveFault (IsWritten unspelled Spell Back) answer
-    answer_unconverted view (convert_faults.Format fault) have told = parts.Unread fault have answer told
-    answer_unconverted view (convert_faults.Refused number why) is told = answer_refused (IsWritten unspelled Spell Back) answer number why is told
-    answer_unconverted view (convert_faults.Unspelled number fact) is told =
+        → IsFaultAnswer fault answer → IsAnswerTo Say HaveFault (IsWritten unspelled Spell Back) answer
+    answer_unconverted view (convert_faults.Format fault) have shown = parts.Unread fault have answer shown
+    answer_unconverted view (convert_faults.Refused number why) is shown = answer_refused (IsWritten unspelled Spell Back) answer number why is shown
+    answer_unconverted view (convert_faults.Unspelled number fact) is shown =
         parts.Played is.plays is.read answer
-        (subst (IsWritten unspelled Spell Back is.plays) (sym told) (in_convert.NotSpelled number fact is.first))
-    answer_unconverted view (convert_faults.Memory memory) is told = absurd told
+        (subst (IsWritten unspelled Spell Back is.plays) (sym shown) (in_convert.NotSpelled number fact is.first))
+    answer_unconverted view (convert_faults.Memory memory) is shown = absurd shown
 
     -- bytes that can be converted
     pub answer_converted : (output : List ℕ) → IsConverted Say unspelled Spell Back output → answer ≡ done output
@@ -158,7 +158,7 @@ module _ (Say : List Record → Type 0) (HaveFault : FormatFault → Type 0) whe
 pub ends_with : (request : Request) (files : Files) (bytes : List ℕ) (out diag : Sinks) (answer : Answer) (status : Status)
     → IsAnswerIn request files bytes answer → IsOwn answer.status → MayEnd answer status
     → Writes out.held out.holds answer status
-    → TellsLine diag.before diag.now diag.held diag.holds (line_of answer status)
+    → PrintsLine diag.before diag.now diag.held diag.holds (line_of answer status)
     → Ends request files bytes out diag status
 ends_with request files bytes out diag answer statuses.Usage is own ends written line = subst IsOwn ends own
 ends_with request files bytes out diag answer statuses.ReadFault is own ends written line = absurd (subst IsOwn ends own)
@@ -195,39 +195,39 @@ pub of_all : (left : Option (List ℕ)) (P : List ℕ → Type 0) → ((bytes : 
 of_all (Some bytes) P each = each bytes
 of_all None P each = ([], each [])
 
--- what follows for files and bytes, whether they are shown or not
-pub where_told : (request : Request) (left : Option (List ℕ)) (told : Option FilesByName) (P Q : Files → List ℕ → Type 0)
-    → ((files : Files) (bytes : List ℕ) → P files bytes → Q files bytes) → WhereTold request left told P → WhereTold request left told Q
-where_told (Load seed hands) left told P Q more is = more _ _ is
-where_told (Plain from command) left told P Q more is = bytes_told left _ _ (more _) is
-where_told (Under name logs) left told P Q more is =
-    of_file told name (λ game. OfBytes left (P (game_alone game))) (λ game. OfBytes left (Q (game_alone game)))
+-- what follows for files and bytes, whether they are displayed or not
+pub where_told : (request : Request) (left : Option (List ℕ)) (shown : Option FilesByName) (P Q : Files → List ℕ → Type 0)
+    → ((files : Files) (bytes : List ℕ) → P files bytes → Q files bytes) → WhereShown request left shown P → WhereShown request left shown Q
+where_told (Load seed hands) left shown P Q more is = more _ _ is
+where_told (Plain from command) left shown P Q more is = bytes_told left _ _ (more _) is
+where_told (Under name logs) left shown P Q more is =
+    of_file shown name (λ game. OfBytes left (P (game_alone game))) (λ game. OfBytes left (Q (game_alone game)))
     (λ game. bytes_told left (P (game_alone game)) (Q (game_alone game)) (more (game_alone game))) is
-where_told (Compare sides name notes) left told P Q more is =
-    of_game_file told sides (λ game. OfFile told name (λ other. OfBytes left (P (two_files game other))))
-    (λ game. OfFile told name (λ other. OfBytes left (Q (two_files game other))))
+where_told (Compare sides name notes) left shown P Q more is =
+    of_game_file shown sides (λ game. OfFile shown name (λ other. OfBytes left (P (two_files game other))))
+    (λ game. OfFile shown name (λ other. OfBytes left (Q (two_files game other))))
     (λ game.
-    of_file told name (λ other. OfBytes left (P (two_files game other))) (λ other. OfBytes left (Q (two_files game other)))
+    of_file shown name (λ other. OfBytes left (P (two_files game other))) (λ other. OfBytes left (Q (two_files game other)))
     (λ other. bytes_told left (P (two_files game other)) (Q (two_files game other)) (more (two_files game other)))) is
 
 -- what holds of all files and bytes
-pub always_told : (request : Request) (left : Option (List ℕ)) (told : Option FilesByName) (P : Files → List ℕ → Type 0)
-    → ((files : Files) (bytes : List ℕ) → P files bytes) → WhereTold request left told P
-always_told (Load seed hands) left told P each = each _ _
-always_told (Plain from command) left told P each = of_all left _ (each _)
-always_told (Under name logs) left told P each =
-    any_file told name (λ game. OfBytes left (P (game_alone game))) (λ game. of_all left (P (game_alone game)) (each (game_alone game)))
-always_told (Compare sides name notes) left told P each =
-    any_game_file told sides (λ game. OfFile told name (λ other. OfBytes left (P (two_files game other))))
+pub always_told : (request : Request) (left : Option (List ℕ)) (shown : Option FilesByName) (P : Files → List ℕ → Type 0)
+    → ((files : Files) (bytes : List ℕ) → P files bytes) → WhereShown request left shown P
+always_told (Load seed hands) left shown P each = each _ _
+always_told (Plain from command) left shown P each = of_all left _ (each _)
+always_told (Under name logs) left shown P each =
+    any_file shown name (λ game. OfBytes left (P (game_alone game))) (λ game. of_all left (P (game_alone game)) (each (game_alone game)))
+always_told (Compare sides name notes) left shown P each =
+    any_game_file shown sides (λ game. OfFile shown name (λ other. OfBytes left (P (two_files game other))))
     (λ game.
-    any_file told name (λ other. OfBytes left (P (two_files game other)))
+    any_file shown name (λ other. OfBytes left (P (two_files game other)))
     (λ other. of_all left (P (two_files game other)) (each (two_files game other))))
 
 -- if the answer is done and has no output, the sink stays the same
 leaves_with : (request : Request) (files : Files) (bytes : List ℕ) (out diag : Sinks) (answer : Answer) (status : Status) (Same : Type 0)
     → IsAnswerIn request files bytes answer → IsOwn answer.status → MayEnd answer status
     → Writes out.held out.holds answer status
-    → TellsLine diag.before diag.now diag.held diag.holds (line_of answer status)
+    → PrintsLine diag.before diag.now diag.held diag.holds (line_of answer status)
     → (status ≡ statuses.Done → answer.output ≡ [] → Same)
     → EndsLeaving request files bytes out diag status Same
 leaves_with request files bytes out diag answer statuses.Done Same is own ends written line same =
@@ -239,45 +239,45 @@ leaves_with request files bytes out diag answer status Same is own ends written 
     record { ends = ends_with request files bytes out diag answer status is own ends written line; unwritten = tt }
 
 -- whether the devices show what they hold or not
-pub ends_where_told : (request : Request) (left : Option (List ℕ)) (told : Option FilesByName) (out diag : Sinks) (answer : Answer) (status : Status) (Same : Type 0)
-    → WhereTold request left told (λ files bytes. IsAnswerIn request files bytes answer)
+pub ends_where_told : (request : Request) (left : Option (List ℕ)) (shown : Option FilesByName) (out diag : Sinks) (answer : Answer) (status : Status) (Same : Type 0)
+    → WhereShown request left shown (λ files bytes. IsAnswerIn request files bytes answer)
     → IsOwn answer.status → MayEnd answer status → Writes out.held out.holds answer status
-    → TellsLine diag.before diag.now diag.held diag.holds (line_of answer status)
+    → PrintsLine diag.before diag.now diag.held diag.holds (line_of answer status)
     → (status ≡ statuses.Done → answer.output ≡ [] → Same)
-    → WhereTold request left told (λ files bytes. EndsLeaving request files bytes out diag status Same)
-ends_where_told request left told out diag answer status Same is own ends written line same =
-    where_told request left told (λ files bytes. IsAnswerIn request files bytes answer) (λ files bytes. EndsLeaving request files bytes out diag status Same)
+    → WhereShown request left shown (λ files bytes. EndsLeaving request files bytes out diag status Same)
+ends_where_told request left shown out diag answer status Same is own ends written line same =
+    where_told request left shown (λ files bytes. IsAnswerIn request files bytes answer) (λ files bytes. EndsLeaving request files bytes out diag status Same)
     (λ files bytes it. leaves_with request files bytes out diag answer status Same it own ends written line same) is
 
 -- a run ends before there is an answer
-module _ (request : Request) (left : Option (List ℕ)) (told : Option FilesByName) (out diag : Sinks) (Same : Type 0) where
-  pub ends_unread_input : WhereTold request left told (λ files bytes. ReadsHands request × (IsWithoutFile request files → ⊥))
-      → WhereTold request left told (λ files bytes. EndsLeaving request files bytes out diag statuses.ReadFault Same)
+module _ (request : Request) (left : Option (List ℕ)) (shown : Option FilesByName) (out diag : Sinks) (Same : Type 0) where
+  pub ends_unread_input : WhereShown request left shown (λ files bytes. ReadsHands request × (IsWithoutFile request files → ⊥))
+      → WhereShown request left shown (λ files bytes. EndsLeaving request files bytes out diag statuses.ReadFault Same)
   ends_unread_input reads =
-      where_told request left told (λ files bytes. ReadsHands request × (IsWithoutFile request files → ⊥))
+      where_told request left shown (λ files bytes. ReadsHands request × (IsWithoutFile request files → ⊥))
       (λ files bytes. EndsLeaving request files bytes out diag statuses.ReadFault Same) (λ files bytes is. record { ends = is; unwritten = tt }) reads
 
-  pub ends_game_missing : WhereTold request left told (λ files bytes. IsGameMissing request files)
-      → WhereTold request left told (λ files bytes. EndsLeaving request files bytes out diag statuses.GameMissing Same)
+  pub ends_game_missing : WhereShown request left shown (λ files bytes. IsGameMissing request files)
+      → WhereShown request left shown (λ files bytes. EndsLeaving request files bytes out diag statuses.GameMissing Same)
   ends_game_missing missing =
-      where_told request left told (λ files bytes. IsGameMissing request files) (λ files bytes. EndsLeaving request files bytes out diag statuses.GameMissing Same)
+      where_told request left shown (λ files bytes. IsGameMissing request files) (λ files bytes. EndsLeaving request files bytes out diag statuses.GameMissing Same)
       (λ files bytes is. record { ends = is; unwritten = tt }) missing
 
-  pub ends_file_missing : WhereTold request left told (λ files bytes. IsFileMissing request files)
-      → WhereTold request left told (λ files bytes. EndsLeaving request files bytes out diag statuses.FileMissing Same)
+  pub ends_file_missing : WhereShown request left shown (λ files bytes. IsFileMissing request files)
+      → WhereShown request left shown (λ files bytes. EndsLeaving request files bytes out diag statuses.FileMissing Same)
   ends_file_missing missing =
-      where_told request left told (λ files bytes. IsFileMissing request files) (λ files bytes. EndsLeaving request files bytes out diag statuses.FileMissing Same)
+      where_told request left shown (λ files bytes. IsFileMissing request files) (λ files bytes. EndsLeaving request files bytes out diag statuses.FileMissing Same)
       (λ files bytes is. record { ends = is; unwritten = tt }) missing
 
   pub ends_shelf_fault : AsksForFile request
-      → WhereTold request left told (λ files bytes. EndsLeaving request files bytes out diag statuses.ShelfFault Same)
+      → WhereShown request left shown (λ files bytes. EndsLeaving request files bytes out diag statuses.ShelfFault Same)
   ends_shelf_fault asks =
-      always_told request left told (λ files bytes. EndsLeaving request files bytes out diag statuses.ShelfFault Same)
+      always_told request left shown (λ files bytes. EndsLeaving request files bytes out diag statuses.ShelfFault Same)
       (λ files bytes. record { ends = asks; unwritten = tt })
 
-  pub ends_memory : WasRefused → WhereTold request left told (λ files bytes. EndsLeaving request files bytes out diag statuses.Memory Same)
+  pub ends_memory : WasRefused → WhereShown request left shown (λ files bytes. EndsLeaving request files bytes out diag statuses.Memory Same)
   ends_memory refused =
-      always_told request left told (λ files bytes. EndsLeaving request files bytes out diag statuses.Memory Same)
+      always_told request left shown (λ files bytes. EndsLeaving request files bytes out diag statuses.Memory Same)
       (λ files bytes. record { ends = refused; unwritten = tt })
 
 -- What is known of the status of an answer if nothing is written.
@@ -315,34 +315,34 @@ told_alone answer statuses.GameMissing held same own undone = absurd own
 told_alone answer statuses.FileMissing held same own undone = absurd own
 
 -- if logs are under a game, the answer is that under the game in its file
-pub game_reply : (told : Option FilesByName) (left : Option (List ℕ)) (name : List ℕ) (logs : Logs) (game : Game) (result : Result made.Answer NoAnswerError)
-    → OfFile told name (λ file. GivesGame file game)
-    → IfOk result (λ answer. OfBytes left (λ bytes. IsAnswerBy (job_under game logs) bytes (answer_told answer)))
-    → IfOk result (λ answer. OfFile told name (λ file. OfBytes left (λ bytes. IsAnswerUnder file logs bytes (answer_told answer))))
-game_reply told left name logs game (Ok answer) gives is =
-    of_file told name (λ file. GivesGame file game) (λ file. OfBytes left (λ bytes. IsAnswerUnder file logs bytes (answer_told answer)))
+pub game_reply : (shown : Option FilesByName) (left : Option (List ℕ)) (name : List ℕ) (logs : Logs) (game : Game) (result : Result made.Answer NoAnswerError)
+    → OfFile shown name (λ file. GivesGame file game)
+    → IfOk result (λ answer. OfBytes left (λ bytes. IsAnswerBy (job_under game logs) bytes (answer_said answer)))
+    → IfOk result (λ answer. OfFile shown name (λ file. OfBytes left (λ bytes. IsAnswerUnder file logs bytes (answer_said answer))))
+game_reply shown left name logs game (Ok answer) gives is =
+    of_file shown name (λ file. GivesGame file game) (λ file. OfBytes left (λ bytes. IsAnswerUnder file logs bytes (answer_said answer)))
     (λ file given.
-    bytes_told left _ (λ bytes. IsAnswerUnder file logs bytes (answer_told answer)) (λ bytes to. answers.OfInput game given (answer_told answer) to) is) gives
-game_reply told left name logs game (Err why) gives is = tt
+    bytes_told left _ (λ bytes. IsAnswerUnder file logs bytes (answer_said answer)) (λ bytes to. answers.OfInput game given (answer_said answer) to) is) gives
+game_reply shown left name logs game (Err why) gives is = tt
 
 -- or it reports what is wrong with the file
-pub no_game : (file : Option (List ℕ)) (lack : GameFileError) (answer : Answer) → Lacks file lack → IsGameFileErrorTold lack answer → GivesNoGame file answer
-no_game file lacks.TooLong answer is told = subst (λ (a : Answer). GivesNoGame file a) (sym told) (game_files.FileTooLong is.0 is.1.0 is.1.1)
-no_game file (lacks.Bad fault) answer is told =
-    subst (λ (a : Answer). GivesNoGame file a) (sym told) (game_files.BadGame is.0 is.1.0 is.1.1.0 fault is.1.1.1)
+pub no_game : (file : Option (List ℕ)) (lack : GameFileError) (answer : Answer) → Lacks file lack → IsGameFileErrorAnswer lack answer → GivesNoGame file answer
+no_game file lacks.TooLong answer is shown = subst (λ (a : Answer). GivesNoGame file a) (sym shown) (game_files.FileTooLong is.0 is.1.0 is.1.1)
+no_game file (lacks.Bad fault) answer is shown =
+    subst (λ (a : Answer). GivesNoGame file a) (sym shown) (game_files.BadGame is.0 is.1.0 is.1.1.0 fault is.1.1.1)
 
-pub game_file_error_reply : (told : Option FilesByName) (left : Option (List ℕ)) (name : List ℕ) (logs : Logs) (lack : GameFileError) (answer : Answer)
-    → OfFile told name (λ file. Lacks file lack) → IsGameFileErrorTold lack answer
-    → OfFile told name (λ file. OfBytes left (λ bytes. IsAnswerUnder file logs bytes answer))
-game_file_error_reply told left name logs lack answer is tells =
-    of_file told name (λ file. Lacks file lack) (λ file. OfBytes left (λ bytes. IsAnswerUnder file logs bytes answer))
+pub game_file_error_reply : (shown : Option FilesByName) (left : Option (List ℕ)) (name : List ℕ) (logs : Logs) (lack : GameFileError) (answer : Answer)
+    → OfFile shown name (λ file. Lacks file lack) → IsGameFileErrorAnswer lack answer
+    → OfFile shown name (λ file. OfBytes left (λ bytes. IsAnswerUnder file logs bytes answer))
+game_file_error_reply shown left name logs lack answer is tells =
+    of_file shown name (λ file. Lacks file lack) (λ file. OfBytes left (λ bytes. IsAnswerUnder file logs bytes answer))
     (λ file lacking. of_all left (λ bytes. IsAnswerUnder file logs bytes answer) (λ bytes. answers.NoGameError answer (no_game file lack answer lacking tells))) is
 
 -- running out of memory says nothing about files and bytes, and leaves the input as it was
-pub ends_unread : (said : Option Request) (left : Option (List ℕ)) (told : Option FilesByName) (out diag : Sinks) (Same : Type 0) → WasRefused
-    → IfSome said (λ request. WhereTold request left told (λ files bytes. EndsLeaving request files bytes out diag statuses.Memory Same))
-ends_unread None left told out diag Same refused = tt
-ends_unread (Some request) left told out diag Same refused = ends_memory request left told out diag Same refused
+pub ends_unread : (said : Option Request) (left : Option (List ℕ)) (shown : Option FilesByName) (out diag : Sinks) (Same : Type 0) → WasRefused
+    → IfSome said (λ request. WhereShown request left shown (λ files bytes. EndsLeaving request files bytes out diag statuses.Memory Same))
+ends_unread None left shown out diag Same refused = tt
+ends_unread (Some request) left shown out diag Same refused = ends_memory request left shown out diag Same refused
 
 pub kept_unread : {X : Type 0} (said : Option Request) (asks : Request → Type 0) (input : X) → IfSome said (λ request. asks request → input ≡ input)
 kept_unread None asks input = tt

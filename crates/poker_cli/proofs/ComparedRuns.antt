@@ -185,7 +185,7 @@ record IsToldOfBoth (by : Comparison) (text bytes : List ℕ) (answer : Answer) 
 module _ (by : Comparison) (text bytes : List ℕ) (status : Status) (read : IsUnread status → ⊥) (legal : statuses.Refused ≡ status → ⊥) where
   told_with : (plays : List Play) (answer : Answer) → length bytes ≤ most_input → ReadAsPlays (SayRecords by.from bytes) plays
       → IsComparedWith by.other by.notes text plays answer → answer.status ≡ status → IsToldOfBoth by text bytes answer
-  told_with plays _ few is (in_compare.OtherUnread fault have answer told) same = absurd (not_unread fault answer status read told same)
+  told_with plays _ few is (in_compare.OtherUnread fault have answer shown) same = absurd (not_unread fault answer status read shown same)
   told_with plays _ few is (in_compare.OtherRefused number why first) same = absurd (legal same)
   told_with plays _ few is (in_compare.OtherPlayed others reads) same =
       record { plays = plays; others = others; both = record { within = few; read = is; other = reads }; is = refl }
@@ -193,7 +193,7 @@ module _ (by : Comparison) (text bytes : List ℕ) (status : Status) (read : IsU
   told_of_both : (answer : Answer) → IsComparison by text bytes answer → answer.status ≡ status → IsToldOfBoth by text bytes answer
   unfolding IsUnread
   told_of_both _ (in_compare.InputTooLong many) same = absurd (read (subst IsUnread same tt))
-  told_of_both answer (in_compare.InputRead few _ (parts_said.Unread fault have _ told)) same = absurd (not_unread fault answer status read told same)
+  told_of_both answer (in_compare.InputRead few _ (parts_said.Unread fault have _ shown)) same = absurd (not_unread fault answer status read shown same)
   told_of_both _ (in_compare.InputRead few _ (parts_said.Refused number why first)) same = absurd (legal same)
   told_of_both answer (in_compare.InputRead few _ (parts_said.Played plays is _ made)) same = told_with plays answer few is made same
 
@@ -212,34 +212,34 @@ module _ (request : Request) (by : Comparison) (files : Files) (text bytes : Lis
   pub found_same : Ends request files bytes out diag statuses.Done → AreFoundSame by text bytes out
   unfolding IsUnread
   found_same ends =
-      let told = told_of_both by text bytes statuses.Done (λ un. un) (λ same. cc (same)) ends.answer
+      let shown = told_of_both by text bytes statuses.Done (λ un. un) (λ same. cc (same)) ends.answer
       (by_request request files by text bytes ends.answer asks ends.to_input) ends.ends in
-      let done : (compared by.notes told.plays told.others).status ≡ statuses.Done = sym (ap (λ (a : Answer). a.status) told.is) ∙ ends.ends in
+      let done : (compared by.notes shown.plays shown.others).status ≡ statuses.Done = sym (ap (λ (a : Answer). a.status) shown.is) ∙ ends.ends in
       record {
-        plays = told.plays;
-        others = told.others;
-        both = told.both;
-        same = (done_of_both by text bytes told.plays told.others told.both).0 done;
+        plays = shown.plays;
+        others = shown.others;
+        both = shown.both;
+        same = (done_of_both by text bytes shown.plays shown.others shown.both).0 done;
         written =
             subst (λ (a : Answer). Appends out.held out.holds a.output)
-            (told.is ∙ done_told (first_different by.notes 0 told.plays told.others) (length told.plays) (length told.others) done) ends.written;
+            (shown.is ∙ done_told (first_different by.notes 0 shown.plays shown.others) (length shown.plays) (length shown.others) done) ends.written;
       }
 
   pub found_other : Ends request files bytes out diag statuses.Differs → AreFoundOther by text bytes diag
   unfolding IsUnread
   found_other ends =
-      let told = told_of_both by text bytes statuses.Differs (λ un. un) (λ same. cc (same)) ends.answer
+      let shown = told_of_both by text bytes statuses.Differs (λ un. un) (λ same. cc (same)) ends.answer
       (by_request request files by text bytes ends.answer asks ends.to_input) ends.ends in
       record {
-        plays = told.plays;
-        others = told.others;
-        both = told.both;
+        plays = shown.plays;
+        others = shown.others;
+        both = shown.both;
         answer = ends.answer;
         differ =
-            subst (AreOther by.notes told.plays told.others) (sym told.is)
-            (other_told by.notes told.plays told.others (plays_sound by text bytes told.plays told.others told.both) (others_sound by text bytes told.plays told.others told.both)
-            (sym (ap (λ (a : Answer). a.status) told.is) ∙ ends.ends));
-        told = ends.line;
+            subst (AreOther by.notes shown.plays shown.others) (sym shown.is)
+            (other_told by.notes shown.plays shown.others (plays_sound by text bytes shown.plays shown.others shown.both) (others_sound by text bytes shown.plays shown.others shown.both)
+            (sym (ap (λ (a : Answer). a.status) shown.is) ∙ ends.ends));
+        shown = ends.line;
       }
 
 module _ (request : Request) (by : Comparison) (files : Files) (text bytes : List ℕ) (plays others : List Play) (out diag : Sinks) (status : Status)
@@ -272,11 +272,11 @@ module _ (request : Request) (by : Comparison) (files : Files) (text bytes : Lis
   pub other_differs : (AreSame by.notes plays others → ⊥) → Ends request files bytes out diag status → FindsOther status
   other_differs other ends = go (told_or_not ends)
     where
-      told : ((compared by.notes plays others).status ≡ status) → ((compared by.notes plays others).status ≡ statuses.Done)
+      shown : ((compared by.notes plays others).status ≡ status) → ((compared by.notes plays others).status ≡ statuses.Done)
           ⊎ ((compared by.notes plays others).status ≡ statuses.Differs) → FindsOther status
-      told is (inl done) = absurd (other ((done_of_both by text bytes plays others both).0 done))
-      told is (inr differs) = subst FindsOther (sym differs ∙ is) tt
+      shown is (inl done) = absurd (other ((done_of_both by text bytes plays others both).0 done))
+      shown is (inr differs) = subst FindsOther (sym differs ∙ is) tt
 
       go : RefusesNothing status ⊎ ((compared by.notes plays others).status ≡ status) → FindsOther status
       go (inl is) = fault_or_not other status ends is
-      go (inr is) = told is (done_or_differs (first_different by.notes 0 plays others) (length plays) (length others))
+      go (inr is) = shown is (done_or_differs (first_different by.notes 0 plays others) (length plays) (length others))

@@ -90,13 +90,13 @@ same_compared notes ps qs os ts same too =
 one_compared : (other : Format) (notes : Bool) (file : List ℕ) (ps qs : List Play) (answer too : Answer) → AreReadSame ps qs
     → IsComparedWith other notes file ps answer → IsComparedWith other notes file qs too → answer ≡ too
 unfolding AllToldAlike
-one_compared other notes file ps qs _ _ same (in_compare.OtherUnread fault have answer told) (in_compare.OtherUnread found has too tells) =
-    ap in_file (one_told other file fault found answer too have has told tells)
-one_compared other notes file ps qs _ _ same (in_compare.OtherUnread fault have answer told) (in_compare.OtherRefused number why first) =
+one_compared other notes file ps qs _ _ same (in_compare.OtherUnread fault have answer shown) (in_compare.OtherUnread found has too tells) =
+    ap in_file (one_told other file fault found answer too have has shown tells)
+one_compared other notes file ps qs _ _ same (in_compare.OtherUnread fault have answer shown) (in_compare.OtherRefused number why first) =
     absurd (no_fault (lawful_of other) file first.records fault first.say have)
-one_compared other notes file ps qs _ _ same (in_compare.OtherUnread fault have answer told) (in_compare.OtherPlayed others read) =
+one_compared other notes file ps qs _ _ same (in_compare.OtherUnread fault have answer shown) (in_compare.OtherPlayed others read) =
     absurd (no_fault (lawful_of other) file read.records fault read.say have)
-one_compared other notes file ps qs _ _ same (in_compare.OtherRefused number why first) (in_compare.OtherUnread fault have answer told) =
+one_compared other notes file ps qs _ _ same (in_compare.OtherRefused number why first) (in_compare.OtherUnread fault have answer shown) =
     absurd (no_fault (lawful_of other) file first.records fault first.say have)
 one_compared other notes file ps qs _ _ same (in_compare.OtherRefused number why first) (in_compare.OtherRefused count reason next) =
     let both = same_refused first.records next.records number count why reason
@@ -104,7 +104,7 @@ one_compared other notes file ps qs _ _ same (in_compare.OtherRefused number why
     ap₂ (λ (n : ℕ) (w : Refusal). in_file (to_refusal n w)) both.0 both.1
 one_compared other notes file ps qs _ _ same (in_compare.OtherRefused number why first) (in_compare.OtherPlayed others read) =
     absurd (refused_or_played first.records read.records number why others ((lawful_of other).one_reading file first.records read.records first.say read.say) first.first read.are)
-one_compared other notes file ps qs _ _ same (in_compare.OtherPlayed others read) (in_compare.OtherUnread fault have answer told) =
+one_compared other notes file ps qs _ _ same (in_compare.OtherPlayed others read) (in_compare.OtherUnread fault have answer shown) =
     absurd (no_fault (lawful_of other) file read.records fault read.say have)
 one_compared other notes file ps qs _ _ same (in_compare.OtherPlayed others read) (in_compare.OtherRefused number why first) =
     absurd (refused_or_played first.records read.records number why others ((lawful_of other).one_reading file first.records read.records first.say read.say) first.first read.are)
@@ -131,7 +131,7 @@ own_hands place (p ∷ ps) = (record { trace = refl; notes = refl }, own_hands (
 -- the answer if both files read as legal hands
 with_legal : (other : Format) (notes : Bool) (file : List ℕ) (plays others : List Play) (answer : Answer) → ReadAsPlays (SayRecords other file) others
     → IsComparedWith other notes file plays answer → answer ≡ compared notes plays others
-with_legal other notes file plays others _ read (in_compare.OtherUnread fault have answer told) = absurd (no_fault (lawful_of other) file read.records fault read.say have)
+with_legal other notes file plays others _ read (in_compare.OtherUnread fault have answer shown) = absurd (no_fault (lawful_of other) file read.records fault read.say have)
 with_legal other notes file plays others _ read (in_compare.OtherRefused number why first) =
     absurd (refused_or_played first.records read.records number why others ((lawful_of other).one_reading file first.records read.records first.say read.say) first.first read.are)
 with_legal other notes file plays others _ read (in_compare.OtherPlayed too reads) =
@@ -315,7 +315,7 @@ module _ (from to : Format) (keep : Keep) (bytes output : List ℕ) (into : Conv
     where
       go : (plays : List Play) (answer : Answer) → AllPaired Same 0 plays into.plays → IsComparedWith to notes output plays answer
           → answer.status ≡ statuses.Done
-      go plays _ same (in_compare.OtherUnread fault have answer told) = absurd (into.back.no_fault fault have)
+      go plays _ same (in_compare.OtherUnread fault have answer shown) = absurd (into.back.no_fault fault have)
       go plays _ same (in_compare.OtherRefused number why first) = absurd (never_refused (meaning_of to) into.plays output number why into.back first)
       go plays _ same (in_compare.OtherPlayed others reads) =
           ap (λ (a : Answer). a.status)
@@ -326,7 +326,7 @@ module _ (from to : Format) (keep : Keep) (bytes output : List ℕ) (into : Conv
   before_source : (notes : Bool) (answer : Answer) → (notes ≡ true → first_refusal_in to keeps.All into.plays ≡ None) → length output ≤ most_input
       → IsComparison (record { from = to; other = from; notes = notes }) bytes output answer → answer.status ≡ statuses.Done
   before_source notes _ none few (in_compare.InputTooLong many) = absurd (omega (arith, many, few))
-  before_source notes answer none few (in_compare.InputRead less _ (parts_said.Unread fault have _ told)) = absurd (into.back.no_fault fault have)
+  before_source notes answer none few (in_compare.InputRead less _ (parts_said.Unread fault have _ shown)) = absurd (into.back.no_fault fault have)
   before_source notes _ none few (in_compare.InputRead less _ (parts_said.Refused number why first)) =
       absurd (never_refused (meaning_of to) into.plays output number why into.back first)
   before_source notes answer none few (in_compare.InputRead less _ (parts_said.Played others reads _ made)) =

@@ -51,7 +51,7 @@ made_of_plays : (from to : Format) (keep : Keep) (bytes : List ℕ) (answer : An
     → ((fault : FormatFault) → HaveFault from bytes fault → ⊥) → ((number : ℕ) (why : Refusal) → ReadAsRefused (SayRecords from bytes) number why → ⊥)
     → IsAnswer (commands.Convert to keep) from bytes answer → IsMadeOf from to keep bytes answer
 made_of_plays from to keep bytes _ few reads legal (answers.TooLong many) = absurd (omega (arith, many, few))
-made_of_plays from to keep bytes answer few reads legal (answers.Read less _ (parts.Unread fault have _ told)) = absurd (reads fault have)
+made_of_plays from to keep bytes answer few reads legal (answers.Read less _ (parts.Unread fault have _ shown)) = absurd (reads fault have)
 made_of_plays from to keep bytes _ few reads legal (answers.Read less _ (parts.Refused number why first)) = absurd (legal number why first)
 made_of_plays from to keep bytes answer few reads legal (answers.Read less _ (parts.Played plays read _ made)) =
     record { plays = plays; read = read; made = made }

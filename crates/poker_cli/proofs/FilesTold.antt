@@ -10,25 +10,25 @@ use Rattle.poker_cli.specs.Files.{Files, FilesByName}
 use Rattle.poker_cli.specs.Run.{OfFile, OfGameFile}
 
 -- what follows for a file
-pub of_file : (told : Option FilesByName) (name : List ℕ) (P Q : Option (List ℕ) → Type 0) → ((file : Option (List ℕ)) → P file → Q file)
-    → OfFile told name P → OfFile told name Q
+pub of_file : (shown : Option FilesByName) (name : List ℕ) (P Q : Option (List ℕ) → Type 0) → ((file : Option (List ℕ)) → P file → Q file)
+    → OfFile shown name P → OfFile shown name Q
 of_file (Some files) name P Q more is = more (files name) is
 of_file None name P Q more is = (is.0, more is.0 is.1)
 
 -- what holds of all files
-pub any_file : (told : Option FilesByName) (name : List ℕ) (P : Option (List ℕ) → Type 0) → ((file : Option (List ℕ)) → P file) → OfFile told name P
+pub any_file : (shown : Option FilesByName) (name : List ℕ) (P : Option (List ℕ) → Type 0) → ((file : Option (List ℕ)) → P file) → OfFile shown name P
 any_file (Some files) name P each = each (files name)
 any_file None name P each = (None, each None)
 
 -- the same of the game file of a comparison
-pub of_game_file : (told : Option FilesByName) (sides : Sides) (P Q : Option (List ℕ) → Type 0) → ((file : Option (List ℕ)) → P file → Q file)
-    → OfGameFile told sides P → OfGameFile told sides Q
-of_game_file told (PlainSides from other) P Q more is = more None is
-of_game_file told (SidesUnder name from other) P Q more is = of_file told name P Q more is
+pub of_game_file : (shown : Option FilesByName) (sides : Sides) (P Q : Option (List ℕ) → Type 0) → ((file : Option (List ℕ)) → P file → Q file)
+    → OfGameFile shown sides P → OfGameFile shown sides Q
+of_game_file shown (PlainSides from other) P Q more is = more None is
+of_game_file shown (SidesUnder name from other) P Q more is = of_file shown name P Q more is
 
-pub any_game_file : (told : Option FilesByName) (sides : Sides) (P : Option (List ℕ) → Type 0) → ((file : Option (List ℕ)) → P file) → OfGameFile told sides P
-any_game_file told (PlainSides from other) P each = each None
-any_game_file told (SidesUnder name from other) P each = any_file told name P each
+pub any_game_file : (shown : Option FilesByName) (sides : Sides) (P : Option (List ℕ) → Type 0) → ((file : Option (List ℕ)) → P file) → OfGameFile shown sides P
+any_game_file shown (PlainSides from other) P each = each None
+any_game_file shown (SidesUnder name from other) P each = any_file shown name P each
 
 -- the files of a request that names a game file alone, or two files
 abbrev pub game_alone : Option (List ℕ) → Files
@@ -38,8 +38,8 @@ abbrev pub two_files : (game other : Option (List ℕ)) → Files
 two_files game other = record { game = game; other = other }
 
 -- what a shelf answers for a name is the answer to a file
-pub answered : (told : Option FilesByName) (name : List ℕ) (max : ℕ) (fetched : Fetched)
-    → IfSome told (λ files. IsAnswer (files name) max fetched) → IsWithin max fetched → OfFile told name (λ file. IsAnswer file max fetched)
+pub answered : (shown : Option FilesByName) (name : List ℕ) (max : ℕ) (fetched : Fetched)
+    → IfSome shown (λ files. IsAnswer (files name) max fetched) → IsWithin max fetched → OfFile shown name (λ file. IsAnswer file max fetched)
 answered (Some files) name max fetched is within = is
 answered None name max (Bytes fetched) is within = (Some fetched.items, (refl, within))
 answered None name max Absent is within = (None, refl)
@@ -49,8 +49,8 @@ answered None name max TooLong is within =
     (Some long, more)
 
 -- what follows for a file from the answer of a shelf to its name
-pub by_answer : (told : Option FilesByName) (name : List ℕ) (max : ℕ) (fetched : Fetched) (P : Option (List ℕ) → Type 0)
-    → IfSome told (λ files. IsAnswer (files name) max fetched) → IsWithin max fetched
-    → ((file : Option (List ℕ)) → IsAnswer file max fetched → P file) → OfFile told name P
-by_answer told name max fetched P is within more =
-    of_file told name (λ file. IsAnswer file max fetched) P more (answered told name max fetched is within)
+pub by_answer : (shown : Option FilesByName) (name : List ℕ) (max : ℕ) (fetched : Fetched) (P : Option (List ℕ) → Type 0)
+    → IfSome shown (λ files. IsAnswer (files name) max fetched) → IsWithin max fetched
+    → ((file : Option (List ℕ)) → IsAnswer file max fetched → P file) → OfFile shown name P
+by_answer shown name max fetched P is within more =
+    of_file shown name (λ file. IsAnswer file max fetched) P more (answered shown name max fetched is within)

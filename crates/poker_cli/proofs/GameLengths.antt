@@ -8,8 +8,8 @@ use Rattle.std.proofs.lemmas.List.{length-append}
 use Rattle.chip_ledger.specs.AmountTexts.{spaced}
 use Rattle.chip_ledger.specs.Greatest.{greatest}
 use Rattle.chip_ledger.specs.declared.numbers.TheConstants.{MOST_CHIPS}
-use Rattle.acpc_game.specs.GameFile.{GameSaid, first_player, last_place}
-use Rattle.acpc_game.specs.GameText.{caps_text, cards_text, chips_text, counts_text, first_text, game_text, key_line, kind_text, rows_text, sizes_text, turns_text}
+use Rattle.acpc_game.specs.GameFile.{GameSaid, first_player, last_seat_with}
+use Rattle.acpc_game.specs.GameText.{caps_text, cards_text, chips_text, counts_text, first_text, game_text, key_line, kind_text, seat_lines, sizes_text, turns_text}
 use Rattle.acpc_game.specs.Games.{has_fitting_sizes}
 use Rattle.chip_ledger.specs.Sizes.{is_size}
 use Rattle.acpc_game.specs.SaidGames.{IsGame, are_caps}
@@ -68,8 +68,8 @@ counts_length players few =
 
 rows_length : (stacks blinds : List ℕ) → list_all (λ number. nat_le number MOST_CHIPS) stacks ≡ true
     → list_all (λ number. nat_le number MOST_CHIPS) blinds ≡ true → length stacks ≤ 10 → length blinds ≤ 10
-    → length (rows_text stacks blinds) ≤ 436
-unfolding rows_text
+    → length (seat_lines stacks blinds) ≤ 436
+unfolding seat_lines
 rows_length stacks blinds all others few as_few =
     omega (
       arith,
@@ -83,8 +83,8 @@ unfolding chips_text
 chips_length game is =
     omega (
       arith,
-      length-append (kind_text game.no_limit) (counts_text (length game.stacks) ++ rows_text game.stacks game.blinds),
-      length-append (counts_text (length game.stacks)) (rows_text game.stacks game.blinds),
+      length-append (kind_text game.no_limit) (counts_text (length game.stacks) ++ seat_lines game.stacks game.blinds),
+      length-append (counts_text (length game.stacks)) (seat_lines game.stacks game.blinds),
       kind_length game.no_limit,
       counts_length (length game.stacks) is.most,
       rows_length game.stacks game.blinds is.few is.few_blinds is.most (omega (arith, is.most, is.one_row)),
@@ -108,9 +108,9 @@ sizes_length game false limit is =
     (all_four game.small_raise game.small_raise game.big_raise game.big_raise fit.0 fit.0 fit.1 fit.1) (omega arith) in
     rw limit (omega (arith, few))
 
-place_within : (number : ℕ) (numbers : List ℕ) → last_place number numbers ≤ length numbers
+place_within : (number : ℕ) (numbers : List ℕ) → last_seat_with number numbers ≤ length numbers
 place_within number [] = omega arith
-place_within number (n ∷ rest) = go (last_place number rest) (nat_lt 0 (last_place number rest)) (n == number) (place_within number rest)
+place_within number (n ∷ rest) = go (last_seat_with number rest) (nat_lt 0 (last_seat_with number rest)) (n == number) (place_within number rest)
   where
     go : (place : ℕ) (later here : Bool) → place ≤ length rest → (if later then place + 1 else if here then 1 else 0) ≤ suc (length rest)
     go place true here few = omega (arith, few)
@@ -118,7 +118,7 @@ place_within number (n ∷ rest) = go (last_place number rest) (nat_lt 0 (last_p
     go place false false few = omega arith
 
 first_few : (blinds : List ℕ) → length blinds ≤ 10 → first_player blinds ≤ 11
-first_few blinds few = go (length blinds == 2) (last_place (greatest blinds) blinds == length blinds) (last_place (greatest blinds) blinds) (omega (arith, few, place_within (greatest blinds) blinds))
+first_few blinds few = go (length blinds == 2) (last_seat_with (greatest blinds) blinds == length blinds) (last_seat_with (greatest blinds) blinds) (omega (arith, few, place_within (greatest blinds) blinds))
   where
     go : (two last : Bool) (place : ℕ) → place ≤ 10 → (if two then 2 else if last then 1 else place + 1) ≤ 11
     go true last place few = omega arith

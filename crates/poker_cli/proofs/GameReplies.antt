@@ -55,7 +55,7 @@ pub first_game : (play : Play) (rest : List Play) (game : Game) (text : List ℕ
     → IsGameReply (play ∷ rest) (done text)
 first_game play rest game text fits written =
     record {
-      told = ap done written ∙ sym (ap to_game fits);
+      shown = ap done written ∙ sym (ap to_game fits);
       taken =
           subst (λ (r : Result GameSaid Unspelled). IfOk r (λ said. (g : Game) × ((game_in g ≡ said) × GivesGame (Some text) g))) (sym fits)
           (game, (refl, gives_it play.trace.setup game text fits written));
@@ -73,11 +73,11 @@ pub first_unspelled : (play : Play) (rest : List Play) (fact : Unspelled) → ga
     → IsGameReply (play ∷ rest) (to_unspelled 1 fact)
 first_unspelled play rest fact refused =
     record {
-      told = sym (ap to_game refused);
+      shown = sym (ap to_game refused);
       taken =
           subst (λ (r : Result GameSaid Unspelled). IfOk r (λ said. (g : Game) × ((game_in g ≡ said) × GivesGame (Some (to_unspelled 1 fact).output) g))) (sym refused) tt;
     }
 
 -- or there is no hand
 pub no_first : IsGameReply [] (done [])
-no_first = record { told = refl; taken = tt }
+no_first = record { shown = refl; taken = tt }

@@ -18,9 +18,9 @@ use Rattle.poker_cli.specs.Files.{Files, FilesByName}
 use Rattle.poker_cli.specs.Answer as answers
 use Rattle.poker_cli.specs.AnswerParts as parts
 use Rattle.poker_cli.specs.Convert as in_convert
-use Rattle.poker_cli.specs.Headline.{AsksToConvert, CanConvert, ConversionEnds, ConvertsInto, EndsOver, Headline, IsOfHands, IsOfLogs, NamesFault, IsTooLong, NamesRefused, NamesUnspelled, TellsAlone}
+use Rattle.poker_cli.specs.Headline.{AsksToConvert, CanConvert, ConversionEnds, ConvertsInto, EndsOver, Headline, IsOfHands, IsOfLogs, NamesFault, IsTooLong, NamesRefused, NamesUnspelled, PrintsAlone}
 use Rattle.convert_core.specs.Formats.{SayRecords}
-use Rattle.poker_cli.specs.Run.{AsksForFile, Ends, EndsLeaving, RefusesNothing, Sinks, TellsLine, WhereTold, WritesNothing, fixed_line}
+use Rattle.poker_cli.specs.Run.{AsksForFile, Ends, EndsLeaving, PrintsLine, RefusesNothing, Sinks, WhereShown, WritesNothing, fixed_line}
 use Rattle.poker_cli.specs.Ways.{way}
 use Rattle.poker_cli.specs.declared.status.Status.{Status}
 use Rattle.poker_cli.specs.declared.status.Status.TheVariants as statuses
@@ -43,19 +43,19 @@ excess_unread fault None = tt
 excess_unread fault (Some quantity) = tt
 
 fault_unread : (fault : FormatFault) (answer : Answer) → to_fault fault ≡ Some answer → IsUnread answer.status
-fault_unread fault answer told =
-    subst (λ (a : Answer). IsUnread a.status) (is_to_unread fault answer told) (excess_unread fault (excess_of fault))
+fault_unread fault answer shown =
+    subst (λ (a : Answer). IsUnread a.status) (is_to_unread fault answer shown) (excess_unread fault (excess_of fault))
 
 -- no other status is that of a fault
 pub not_unread : (fault : FormatFault) (answer : Answer) (status : Status) → (IsUnread status → ⊥) → to_fault fault ≡ Some answer → answer.status ≡ status → ⊥
-not_unread fault answer status other told same = other (subst IsUnread same (fault_unread fault answer told))
+not_unread fault answer status other shown same = other (subst IsUnread same (fault_unread fault answer shown))
 
 module _ (from to : Format) (keep : Keep) (bytes : List ℕ) where
   -- an answer that is done
   pub done_into : (answer : Answer) → IsAnswer (commands.Convert to keep) from bytes answer → answer.status ≡ statuses.Done → ConvertsInto from to keep bytes answer.output
   unfolding IsUnread
   done_into _ (answers.TooLong many) same = absurd (cc (same))
-  done_into answer (answers.Read few _ (parts.Unread fault have _ told)) same = absurd (not_unread fault answer statuses.Done (λ un. un) told same)
+  done_into answer (answers.Read few _ (parts.Unread fault have _ shown)) same = absurd (not_unread fault answer statuses.Done (λ un. un) shown same)
   done_into _ (answers.Read few _ (parts.Refused number why first)) same = absurd (cc (same))
   done_into _ (answers.Read few _ (parts.Played plays read _ (in_convert.NotSpelled number fact is))) same = absurd (cc (same))
   done_into _ (answers.Read few _ (parts.Played plays read _ (in_convert.Spelled none output spell back))) same =
@@ -64,45 +64,45 @@ module _ (from to : Format) (keep : Keep) (bytes : List ℕ) where
   module _ (out diag : Sinks) where
     -- a refused hand
     refused_so : (answer : Answer) → IsAnswer (commands.Convert to keep) from bytes answer → answer.status ≡ statuses.Refused
-        → TellsAlone out diag answer.line → NamesRefused from bytes out diag
+        → PrintsAlone out diag answer.line → NamesRefused from bytes out diag
     unfolding IsUnread
-    refused_so _ (answers.TooLong many) same told = absurd (cc (same))
-    refused_so answer (answers.Read few _ (parts.Unread fault have _ is)) same told = absurd (not_unread fault answer statuses.Refused (λ un. un) is same)
-    refused_so _ (answers.Read few _ (parts.Refused number why first)) same told =
-        record { within = few; number = number; why = why; first = first; told = told }
-    refused_so _ (answers.Read few _ (parts.Played plays read _ (in_convert.NotSpelled number fact is))) same told = absurd (cc (same))
-    refused_so _ (answers.Read few _ (parts.Played plays read _ (in_convert.Spelled none output spell back))) same told = absurd (cc (same))
+    refused_so _ (answers.TooLong many) same shown = absurd (cc (same))
+    refused_so answer (answers.Read few _ (parts.Unread fault have _ is)) same shown = absurd (not_unread fault answer statuses.Refused (λ un. un) is same)
+    refused_so _ (answers.Read few _ (parts.Refused number why first)) same shown =
+        record { within = few; number = number; why = why; first = first; shown = shown }
+    refused_so _ (answers.Read few _ (parts.Played plays read _ (in_convert.NotSpelled number fact is))) same shown = absurd (cc (same))
+    refused_so _ (answers.Read few _ (parts.Played plays read _ (in_convert.Spelled none output spell back))) same shown = absurd (cc (same))
 
     -- a fact that cannot be written
     unspelled_so : (answer : Answer) → IsAnswer (commands.Convert to keep) from bytes answer → answer.status ≡ statuses.Unspelled
-        → TellsAlone out diag answer.line → NamesUnspelled from to keep bytes out diag
+        → PrintsAlone out diag answer.line → NamesUnspelled from to keep bytes out diag
     unfolding IsUnread
-    unspelled_so _ (answers.TooLong many) same told = absurd (cc (same))
-    unspelled_so answer (answers.Read few _ (parts.Unread fault have _ is)) same told = absurd (not_unread fault answer statuses.Unspelled (λ un. un) is same)
-    unspelled_so _ (answers.Read few _ (parts.Refused number why first)) same told = absurd (cc (same))
-    unspelled_so _ (answers.Read few _ (parts.Played plays read _ (in_convert.NotSpelled number fact is))) same told =
-        record { within = few; number = number; fact = fact; first = record { plays = plays; read = read; first = is }; told = told }
-    unspelled_so _ (answers.Read few _ (parts.Played plays read _ (in_convert.Spelled none output spell back))) same told = absurd (cc (same))
+    unspelled_so _ (answers.TooLong many) same shown = absurd (cc (same))
+    unspelled_so answer (answers.Read few _ (parts.Unread fault have _ is)) same shown = absurd (not_unread fault answer statuses.Unspelled (λ un. un) is same)
+    unspelled_so _ (answers.Read few _ (parts.Refused number why first)) same shown = absurd (cc (same))
+    unspelled_so _ (answers.Read few _ (parts.Played plays read _ (in_convert.NotSpelled number fact is))) same shown =
+        record { within = few; number = number; fact = fact; first = record { plays = plays; read = read; first = is }; shown = shown }
+    unspelled_so _ (answers.Read few _ (parts.Played plays read _ (in_convert.Spelled none output spell back))) same shown = absurd (cc (same))
 
     -- bytes that cannot be read
     bad_so : (answer : Answer) → IsAnswer (commands.Convert to keep) from bytes answer → answer.status ≡ statuses.BadInput
-        → TellsAlone out diag answer.line → NamesFault from bytes out diag statuses.BadInput
-    bad_so _ (answers.TooLong many) same told = absurd (cc (same))
-    bad_so answer (answers.Read few _ (parts.Unread fault have _ is)) same told =
-        record { within = few; fault = fault; have = have; answer = answer; answered = is; same = same; told = told }
-    bad_so _ (answers.Read few _ (parts.Refused number why first)) same told = absurd (cc (same))
-    bad_so _ (answers.Read few _ (parts.Played plays read _ (in_convert.NotSpelled number fact is))) same told = absurd (cc (same))
-    bad_so _ (answers.Read few _ (parts.Played plays read _ (in_convert.Spelled none output spell back))) same told = absurd (cc (same))
+        → PrintsAlone out diag answer.line → NamesFault from bytes out diag statuses.BadInput
+    bad_so _ (answers.TooLong many) same shown = absurd (cc (same))
+    bad_so answer (answers.Read few _ (parts.Unread fault have _ is)) same shown =
+        record { within = few; fault = fault; have = have; answer = answer; answered = is; same = same; shown = shown }
+    bad_so _ (answers.Read few _ (parts.Refused number why first)) same shown = absurd (cc (same))
+    bad_so _ (answers.Read few _ (parts.Played plays read _ (in_convert.NotSpelled number fact is))) same shown = absurd (cc (same))
+    bad_so _ (answers.Read few _ (parts.Played plays read _ (in_convert.Spelled none output spell back))) same shown = absurd (cc (same))
 
     -- bytes over a limit
     limit_so : (answer : Answer) → IsAnswer (commands.Convert to keep) from bytes answer → answer.status ≡ statuses.Limit
-        → TellsAlone out diag answer.line → IsTooLong bytes out diag ⊎ NamesFault from bytes out diag statuses.Limit
-    limit_so _ (answers.TooLong many) same told = inl (record { beyond = many; told = told })
-    limit_so answer (answers.Read few _ (parts.Unread fault have _ is)) same told =
-        inr (record { within = few; fault = fault; have = have; answer = answer; answered = is; same = same; told = told })
-    limit_so _ (answers.Read few _ (parts.Refused number why first)) same told = absurd (cc (same))
-    limit_so _ (answers.Read few _ (parts.Played plays read _ (in_convert.NotSpelled number fact is))) same told = absurd (cc (same))
-    limit_so _ (answers.Read few _ (parts.Played plays read _ (in_convert.Spelled none output spell back))) same told = absurd (cc (same))
+        → PrintsAlone out diag answer.line → IsTooLong bytes out diag ⊎ NamesFault from bytes out diag statuses.Limit
+    limit_so _ (answers.TooLong many) same shown = inl (record { beyond = many; shown = shown })
+    limit_so answer (answers.Read few _ (parts.Unread fault have _ is)) same shown =
+        inr (record { within = few; fault = fault; have = have; answer = answer; answered = is; same = same; shown = shown })
+    limit_so _ (answers.Read few _ (parts.Refused number why first)) same shown = absurd (cc (same))
+    limit_so _ (answers.Read few _ (parts.Played plays read _ (in_convert.NotSpelled number fact is))) same shown = absurd (cc (same))
+    limit_so _ (answers.Read few _ (parts.Played plays read _ (in_convert.Spelled none output spell back))) same shown = absurd (cc (same))
 
   -- no question about one hand is asked
   never_none : (answer : Answer) → IsAnswer (commands.Convert to keep) from bytes answer → answer.status ≡ statuses.NoSuch → ⊥
@@ -150,7 +150,7 @@ pub record IsLeft (out diag : Sinks) (status : Status) : Type 0 where
   pub unwritten : WritesNothing status → out.holds ≡ out.held
   pub failed : status ≡ statuses.WriteFault → Rose out.before out.now
   pub quiet : status ≡ statuses.Done → diag.holds ≡ diag.held
-  pub fixed : IfSome (fixed_line status) (TellsLine diag.before diag.now diag.held diag.holds)
+  pub fixed : IfSome (fixed_line status) (PrintsLine diag.before diag.now diag.held diag.holds)
 
 module _ (request : Request) (files : Files) (from to : Format) (keep : Keep) (bytes : List ℕ) (out diag : Sinks) where
   -- a conversion ends as its status says
@@ -171,24 +171,24 @@ module _ (request : Request) (files : Files) (from to : Format) (keep : Keep) (b
         converts = done_into from to keep bytes ends.answer (in_way request files bytes by ends.answer found ends.to_input) ends.ends.0;
         written = ends.written;
         failed = left.failed refl;
-        told = left.fixed;
+        shown = left.fixed;
       }
   conversion_ends statuses.Refused found ends left =
       refused_so from to keep bytes out diag ends.answer (in_way request files bytes (way (commands.Convert to keep) from) ends.answer found ends.to_input) ends.ends
-      (record { unwritten = left.unwritten tt; told = ends.line })
+      (record { unwritten = left.unwritten tt; shown = ends.line })
   conversion_ends statuses.Unspelled found ends left =
       unspelled_so from to keep bytes out diag ends.answer (in_way request files bytes (way (commands.Convert to keep) from) ends.answer found ends.to_input) ends.ends
-      (record { unwritten = left.unwritten tt; told = ends.line })
+      (record { unwritten = left.unwritten tt; shown = ends.line })
   conversion_ends statuses.BadInput found ends left =
       bad_so from to keep bytes out diag ends.answer (in_way request files bytes (way (commands.Convert to keep) from) ends.answer found ends.to_input) ends.ends
-      (record { unwritten = left.unwritten tt; told = ends.line })
+      (record { unwritten = left.unwritten tt; shown = ends.line })
   conversion_ends statuses.Limit found ends left =
       limit_so from to keep bytes out diag ends.answer (in_way request files bytes (way (commands.Convert to keep) from) ends.answer found ends.to_input) ends.ends
-      (record { unwritten = left.unwritten tt; told = ends.line })
-  conversion_ends statuses.ReadFault found ends left = record { unwritten = left.unwritten tt; told = left.fixed }
-  conversion_ends statuses.Memory found ends left = (ends, record { unwritten = left.unwritten tt; told = left.fixed })
+      (record { unwritten = left.unwritten tt; shown = ends.line })
+  conversion_ends statuses.ReadFault found ends left = record { unwritten = left.unwritten tt; shown = left.fixed }
+  conversion_ends statuses.Memory found ends left = (ends, record { unwritten = left.unwritten tt; shown = left.fixed })
   conversion_ends statuses.ShelfFault found ends left =
-      (asks_for_logs files request from to keep found ends, record { unwritten = left.unwritten tt; told = left.fixed })
+      (asks_for_logs files request from to keep found ends, record { unwritten = left.unwritten tt; shown = left.fixed })
   conversion_ends statuses.Usage found ends left = ends
   conversion_ends statuses.GameMissing found ends left = no_missing files request (way (commands.Convert to keep) from) found ends
   conversion_ends statuses.BadGame found ends left =
@@ -234,22 +234,22 @@ module _ (request : Request) (files : Files) (from to : Format) (keep : Keep) (b
 
 -- whether the devices show what they hold or not
 abbrev pub LeavingTold : Option Request → Option (List ℕ) → Option FilesByName → (out diag : Sinks) → Status → Type 0 → Type 0
-LeavingTold said left told out diag status Same =
-    IfSome said (λ request. WhereTold request left told (λ files bytes. EndsLeaving request files bytes out diag status Same))
+LeavingTold said left shown out diag status Same =
+    IfSome said (λ request. WhereShown request left shown (λ files bytes. EndsLeaving request files bytes out diag status Same))
 
 abbrev pub EndsTold : Option Request → Option (List ℕ) → Option FilesByName → (out diag : Sinks) → Status → Type 0 → Type 0
-EndsTold said left told out diag status Same =
-    IfSome said (λ request. WhereTold request left told (λ files bytes. EndsOver request files bytes out diag status Same))
+EndsTold said left shown out diag status Same =
+    IfSome said (λ request. WhereShown request left shown (λ files bytes. EndsOver request files bytes out diag status Same))
 
-pub ends_told : (said : Option Request) (left : Option (List ℕ)) (told : Option FilesByName) (out diag : Sinks) (status : Status) (Same : Type 0)
-    → LeavingTold said left told out diag status Same → IsLeft out diag status → EndsTold said left told out diag status Same
-ends_told said left told out diag status Same ends is_left =
+pub ends_told : (said : Option Request) (left : Option (List ℕ)) (shown : Option FilesByName) (out diag : Sinks) (status : Status) (Same : Type 0)
+    → LeavingTold said left shown out diag status Same → IsLeft out diag status → EndsTold said left shown out diag status Same
+ends_told said left shown out diag status Same ends is_left =
     some_more said _ _
-    (λ request. where_told request left told _ _
+    (λ request. where_told request left shown _ _
     (λ files bytes so. record { ends = so; headline = λ from to keep. headline request files from to keep bytes out diag status so.ends is_left })) ends
 
 -- of the request that the words are read as
-pub ends_read : (request : Request) (said : Option Request) (left : Option (List ℕ)) (told : Option FilesByName) (out diag : Sinks) (status : Status) (Same : Type 0)
-    → Some request ≡ said → LeavingTold (Some request) left told out diag status Same → IsLeft out diag status → EndsTold said left told out diag status Same
-ends_read request said left told out diag status Same read ends is_left =
-    subst (λ (s : Option Request). EndsTold s left told out diag status Same) read (ends_told (Some request) left told out diag status Same ends is_left)
+pub ends_read : (request : Request) (said : Option Request) (left : Option (List ℕ)) (shown : Option FilesByName) (out diag : Sinks) (status : Status) (Same : Type 0)
+    → Some request ≡ said → LeavingTold (Some request) left shown out diag status Same → IsLeft out diag status → EndsTold said left shown out diag status Same
+ends_read request said left shown out diag status Same read ends is_left =
+    subst (λ (s : Option Request). EndsTold s left shown out diag status Same) read (ends_told (Some request) left shown out diag status Same ends is_left)

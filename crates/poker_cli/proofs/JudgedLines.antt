@@ -6,7 +6,7 @@ use Rattle.convert_core.specs.declared.refusal.Refusal.{Refusal}
 use Rattle.convert_core.proofs.Taken.{legal_more, legal_same}
 use Rattle.convert_core.specs.Taking.{AreTaken}
 use Rattle.convert_core.specs.Verdicts.{Legal, Refused, Verdict, legal_plays}
-use Rattle.poker_cli.specs.Judge.{ArePrinted, IsJudged, each_verdict, judged_end, verdict_line}
+use Rattle.poker_cli.specs.Judge.{ArePrinted, IsVerdictsText, each_verdict, verdict_line, verdicts_end}
 
 -- the line of the hand at a place
 abbrev line_at : (lines : List ℕ) → ℕ → Verdict → List ℕ
@@ -73,13 +73,13 @@ none_printed lines text empty = record { said = empty; counted = refl; same = re
 -- the last line after those of all hands
 pub all_printed : (lines known : List ℕ) (records : List Record) (count hands legal : ℕ) (kept : List Play) (text new : List ℕ)
     → AreTaken true false (λ verdicts. ArePrinted lines known text legal verdicts) records count kept → hands ≡ count
-    → new ≡ text ++ judged_end legal hands → IsJudged lines records new
+    → new ≡ text ++ verdicts_end legal hands → IsVerdictsText lines records new
 all_printed lines known records count hands legal kept text new taken all more =
     let verdicts = taken.verdicts in
     record {
       verdicts = verdicts;
       are = taken.are;
-      said = more ∙ ap (λ (xs : List ℕ). xs ++ judged_end legal hands) taken.took.said
-          ∙ ap (λ (n : ℕ). each_verdict lines 0 verdicts ++ judged_end n hands) taken.took.counted
-          ∙ ap (λ (n : ℕ). each_verdict lines 0 verdicts ++ judged_end (length (legal_plays verdicts)) n) (all ∙ taken.counted);
+      said = more ∙ ap (λ (xs : List ℕ). xs ++ verdicts_end legal hands) taken.took.said
+          ∙ ap (λ (n : ℕ). each_verdict lines 0 verdicts ++ verdicts_end n hands) taken.took.counted
+          ∙ ap (λ (n : ℕ). each_verdict lines 0 verdicts ++ verdicts_end (length (legal_plays verdicts)) n) (all ∙ taken.counted);
     }

@@ -13,7 +13,7 @@ use Rattle.hand_records.specs.declared.writing.Keep.{Keep}
 use Rattle.hand_records.specs.declared.writing.Keep.TheVariants as keeps
 use Rattle.poker_cli.specs.Headline.{ConversionEnds, ConvertsInto}
 use Rattle.poker_cli.specs.Run.{Sinks}
-use Rattle.poker_cli.specs.RunTells.{told_by}
+use Rattle.poker_cli.specs.RunReports.{report_by}
 use Rattle.poker_cli.specs.declared.status.Status.{Status}
 use Rattle.poker_cli.specs.declared.status.Status.TheVariants as statuses
 
@@ -28,7 +28,7 @@ if_some (Some a) more is = more a is
 
 -- what a run reports is an answer of its conversion
 tells : (from to : Format) (keep : Keep) (bytes : List ℕ) (out diag : Sinks) (status : Status) (ends : ConversionEnds from to keep bytes out diag status)
-    → IfSome (told_by from to keep bytes out diag status ends) (Answers (meaning_of from) (meaning_of to) keep bytes)
+    → IfSome (report_by from to keep bytes out diag status ends) (Answers (meaning_of from) (meaning_of to) keep bytes)
 tells from to keep bytes out diag statuses.Done ends = converted from to keep bytes ends.output ends.converts
 tells from to keep bytes out diag statuses.WriteFault ends = converted from to keep bytes ends.output ends.converts
 tells from to keep bytes out diag statuses.Refused ends = ends.first
@@ -46,19 +46,19 @@ equal_runs from other to keep bytes too output written plays others read read_to
 
 pub runs_again : (from to : Format) (keep again : Keep) (bytes output : List ℕ) → ConvertsInto from to keep bytes output
     → (out diag : Sinks) (status : Status) (ends : ConversionEnds to to again output out diag status)
-    → IfSome (told_by to to again output out diag status ends) (AreSameAnswers (AreSameIn to) (Ok output))
+    → IfSome (report_by to to again output out diag status ends) (AreSameAnswers (AreSameIn to) (Ok output))
 runs_again from to keep again bytes output into out diag status ends =
-    if_some (told_by to to again output out diag status ends)
+    if_some (report_by to to again output out diag status ends)
     (λ answer. output_again (lawful_of from) (lawful_of to) keep again bytes output answer (converted from to keep bytes output into))
     (tells to to again output out diag status ends)
 
 pub runs_by_way : (from by to : Format) (keep : Keep) (bytes output : List ℕ) → ConvertsInto from by keeps.All bytes output
     → (out diag others by_diag : Sinks) (status other : Status) (straight : ConversionEnds from to keep bytes out diag status) (by_way : ConversionEnds by to keep output others by_diag other)
-    → IfSome (told_by from to keep bytes out diag status straight)
-    (λ answer. IfSome (told_by by to keep output others by_diag other by_way) (AreSameAnswers (AreSameIn to) answer))
+    → IfSome (report_by from to keep bytes out diag status straight)
+    (λ answer. IfSome (report_by by to keep output others by_diag other by_way) (AreSameAnswers (AreSameIn to) answer))
 runs_by_way from by to keep bytes output into out diag others by_diag status other straight by_way =
-    if_some (told_by from to keep bytes out diag status straight)
-    (λ answer is. if_some (told_by by to keep output others by_diag other by_way)
+    if_some (report_by from to keep bytes out diag status straight)
+    (λ answer is. if_some (report_by by to keep output others by_diag other by_way)
     (λ again it. same_answers (lawful_of from) (lawful_of by) (lawful_of to) keep bytes output (converted from by keeps.All bytes output into) answer again is it)
     (tells by to keep output others by_diag other by_way))
     (tells from to keep bytes out diag status straight)

@@ -23,7 +23,7 @@ use Rattle.play_event.specs.declared.setup.Setup.{Setup}
 use Rattle.printed_hands.specs.Check.{check_end, check_line, check_said, each_hand}
 use Rattle.printed_hands.specs.Steps.{replay_lines}
 use Rattle.printed_report.specs.Report.{Hand, Seated, hand_of, report_on, seated_in}
-use Rattle.hand_canon.specs.Judged.{IsJudged}
+use Rattle.hand_canon.specs.LegalPlay.{IsLegalPlay}
 use Rattle.convert_core.specs.FormatLaws.{lawful_of}
 use Rattle.convert_core.specs.Judged.{ArePlaysOf, IsFirstRefused}
 use Rattle.convert_core.specs.declared.refusal.Refusal.{Refusal}
@@ -101,7 +101,7 @@ same_hand p q traced own alike =
     ∙ ap (λ (trace : Trace). record (hand_of (record q { trace = trace })) { seats = map (seated_in q) (range_with_len 1 trace.setup.stacks.seats) }) traced
 
 -- of all hands whose plays are judged
-same_hands : (ps qs : List Play) → All IsJudged ps → AllTraced ps qs → AllAlike (hands_of ps) (hands_of qs)
+same_hands : (ps qs : List Play) → All IsLegalPlay ps → AllTraced ps qs → AllAlike (hands_of ps) (hands_of qs)
     → map hand_of ps ≡ map hand_of qs
 unfolding AllTraced AllAlike
 same_hands [] [] judged traced alike = refl
@@ -109,8 +109,8 @@ same_hands [] (q ∷ qs) judged traced alike = absurd traced
 same_hands (p ∷ ps) [] judged traced alike = absurd traced
 same_hands (p ∷ ps) (q ∷ qs) judged traced alike =
     ap₂ (λ (hand : Hand) (others : List Hand). hand ∷ others)
-    (same_hand p q traced.0.0 (All-head IsJudged p ps judged).traced.whole.same_setup alike.0)
-    (same_hands ps qs (All-tail IsJudged p ps judged) traced.1 alike.1)
+    (same_hand p q traced.0.0 (All-head IsLegalPlay p ps judged).traced.whole.same_setup alike.0)
+    (same_hands ps qs (All-tail IsLegalPlay p ps judged) traced.1 alike.1)
 
 -- what `check` prints
 same_check : (ps qs : List Play) → AllTraced ps qs → check_said ps ≡ check_said qs
@@ -174,7 +174,7 @@ one_message (readers.Acpc game) seat ps qs answer other traced alike is it = one
 one_message reader seat ps qs answer other traced alike is it = is ∙ sym it
 
 -- the reply to a command about hands
-one_reply : (command : Command Format) (reader : Format) (ps qs : List Play) (answer other : Answer) → All IsJudged ps → AllTraced ps qs
+one_reply : (command : Command Format) (reader : Format) (ps qs : List Play) (answer other : Answer) → All IsLegalPlay ps → AllTraced ps qs
     → AllAlike (hands_of ps) (hands_of qs) → AreReadSame ps qs
     → IsReply command reader ps answer → IsReply command reader qs other → AreOneAnswer command answer other
 one_reply commands.Check reader ps qs answer other judged traced alike same is it = is ∙ ap done (same_check ps qs traced) ∙ sym it
@@ -184,7 +184,7 @@ one_reply commands.Report reader ps qs answer other judged traced alike same is 
     is ∙ ap (λ (hands : List Hand). done (report_on hands)) (same_hands ps qs judged traced alike) ∙ sym it
 one_reply commands.Session reader ps qs answer other judged traced alike same is it =
     is ∙ ap (λ (hands : List SessionHand). done (session_printed (session_of hands))) (same_sessions ps qs traced alike) ∙ sym it
-one_reply commands.Game reader ps qs answer other judged traced alike same is it = is.told ∙ same_game ps qs traced ∙ sym it.told
+one_reply commands.Game reader ps qs answer other judged traced alike same is it = is.shown ∙ same_game ps qs traced ∙ sym it.shown
 one_reply (commands.Options hand events) reader ps qs answer other judged traced alike same is it = one_options hand events ps qs answer other traced is it
 one_reply (commands.Equity hand street) reader ps qs answer other judged traced alike same is it = one_equity hand street ps qs answer other traced is it
 one_reply (commands.Judge lines) reader ps qs answer other judged traced alike same is it = absurd is
@@ -216,32 +216,32 @@ refused_or_played records others number why plays alike first are =
 -- All that can be made of plays counts as one, by what makes two answers count as one.
 pub record IsOneMade (IsMade : List Play → Answer → Type 0) (One : Answer → Answer → Type 0) : Type 0 where
   pub itself : (answer other : Answer) → answer ≡ other → One answer other
-  pub made : (ps qs : List Play) (answer other : Answer) → All IsJudged ps → AllTraced ps qs → AllAlike (hands_of ps) (hands_of qs) → AreReadSame ps qs
+  pub made : (ps qs : List Play) (answer other : Answer) → All IsLegalPlay ps → AllTraced ps qs → AllAlike (hands_of ps) (hands_of qs) → AreReadSame ps qs
       → IsMade ps answer → IsMade qs other → One answer other
 
 pub same_answer : (Say : List Record → Type 0) (HaveFault : FormatFault → Type 0) (IsMade : List Play → Answer → Type 0) (One : Answer → Answer → Type 0) (answer other : Answer)
     → IsOneMade IsMade One → IsReadAlike Say → AllReadSame Say → AllToldAlike HaveFault → SayOrFault Say HaveFault
     → IsAnswerTo Say HaveFault IsMade answer → IsAnswerTo Say HaveFault IsMade other → One answer other
 unfolding AllReadSame AllToldAlike SayOrFault
-same_answer Say HaveFault IsMade One answer other one alike same told apart (parts.Unread fault have _ is) (parts.Unread found has _ it) =
-    one.itself answer other (told fault found answer other have has is it)
-same_answer Say HaveFault IsMade One answer _ one alike same told apart (parts.Unread fault have _ is) (parts.Refused number why first) =
+same_answer Say HaveFault IsMade One answer other one alike same shown apart (parts.Unread fault have _ is) (parts.Unread found has _ it) =
+    one.itself answer other (shown fault found answer other have has is it)
+same_answer Say HaveFault IsMade One answer _ one alike same shown apart (parts.Unread fault have _ is) (parts.Refused number why first) =
     absurd (apart first.records fault first.say have)
-same_answer Say HaveFault IsMade One answer other one alike same told apart (parts.Unread fault have _ is) (parts.Played plays read _ made) =
+same_answer Say HaveFault IsMade One answer other one alike same shown apart (parts.Unread fault have _ is) (parts.Played plays read _ made) =
     absurd (apart read.records fault read.say have)
-same_answer Say HaveFault IsMade One _ other one alike same told apart (parts.Refused number why first) (parts.Unread fault have _ is) =
+same_answer Say HaveFault IsMade One _ other one alike same shown apart (parts.Refused number why first) (parts.Unread fault have _ is) =
     absurd (apart first.records fault first.say have)
-same_answer Say HaveFault IsMade One _ _ one alike same told apart (parts.Refused number why first) (parts.Refused count reason next) =
+same_answer Say HaveFault IsMade One _ _ one alike same shown apart (parts.Refused number why first) (parts.Refused count reason next) =
     let both = same_refused first.records next.records number count why reason
     (all_same first.records next.records (alike first.records next.records first.say next.say)) first.first next.first in
     one.itself (to_refusal number why) (to_refusal count reason) (ap₂ to_refusal both.0 both.1)
-same_answer Say HaveFault IsMade One _ other one alike same told apart (parts.Refused number why first) (parts.Played plays read _ made) =
+same_answer Say HaveFault IsMade One _ other one alike same shown apart (parts.Refused number why first) (parts.Played plays read _ made) =
     absurd (refused_or_played first.records read.records number why plays (alike first.records read.records first.say read.say) first.first read.are)
-same_answer Say HaveFault IsMade One answer other one alike same told apart (parts.Played plays read _ made) (parts.Unread fault have _ is) =
+same_answer Say HaveFault IsMade One answer other one alike same shown apart (parts.Played plays read _ made) (parts.Unread fault have _ is) =
     absurd (apart read.records fault read.say have)
-same_answer Say HaveFault IsMade One answer _ one alike same told apart (parts.Played plays read _ made) (parts.Refused number why first) =
+same_answer Say HaveFault IsMade One answer _ one alike same shown apart (parts.Played plays read _ made) (parts.Refused number why first) =
     absurd (refused_or_played first.records read.records number why plays (alike first.records read.records first.say read.say) first.first read.are)
-same_answer Say HaveFault IsMade One answer other one alike same told apart (parts.Played plays read _ made) (parts.Played too reads _ makes) =
+same_answer Say HaveFault IsMade One answer other one alike same shown apart (parts.Played plays read _ made) (parts.Played too reads _ makes) =
     let both = alike read.records reads.records read.say reads.say in
     one.made plays too answer other read.are.judged
     (same_traces read.records reads.records plays too (all_same read.records reads.records both) read.are reads.are)
@@ -252,13 +252,13 @@ same_judgement : (Say : List Record → Type 0) (HaveFault : FormatFault → Typ
     → IsReadAlike Say → AllToldAlike HaveFault → SayOrFault Say HaveFault
     → IsJudgement Say HaveFault lines answer → IsJudgement Say HaveFault lines other → answer ≡ other
 unfolding AllToldAlike SayOrFault
-same_judgement Say HaveFault lines answer other alike told apart (in_judge.NotJudged fault have _ is) (in_judge.NotJudged found has _ it) =
-    told fault found answer other have has is it
-same_judgement Say HaveFault lines answer _ alike told apart (in_judge.NotJudged fault have _ is) (in_judge.Judged records say verdicts are) =
+same_judgement Say HaveFault lines answer other alike shown apart (in_judge.NotJudged fault have _ is) (in_judge.NotJudged found has _ it) =
+    shown fault found answer other have has is it
+same_judgement Say HaveFault lines answer _ alike shown apart (in_judge.NotJudged fault have _ is) (in_judge.Judged records say verdicts are) =
     absurd (apart records fault say have)
-same_judgement Say HaveFault lines _ other alike told apart (in_judge.Judged records say verdicts are) (in_judge.NotJudged fault have _ is) =
+same_judgement Say HaveFault lines _ other alike shown apart (in_judge.Judged records say verdicts are) (in_judge.NotJudged fault have _ is) =
     absurd (apart records fault say have)
-same_judgement Say HaveFault lines _ _ alike told apart (in_judge.Judged records say verdicts are) (in_judge.Judged others says too is) =
+same_judgement Say HaveFault lines _ _ alike shown apart (in_judge.Judged records say verdicts are) (in_judge.Judged others says too is) =
     ap done (same_judged lines records others verdicts too (all_same records others (alike records others say says)) are is)
 
 -- the answers of hands, each by itself, count as one
@@ -266,20 +266,20 @@ same_of_each : (Say : List Record → Type 0) (HaveFault : FormatFault → Type 
     → IsReadAlike Say → AllToldAlike HaveFault → SayOrFault Say HaveFault
     → IsAnswerOfEach Say HaveFault question answer → IsAnswerOfEach Say HaveFault question other → answer ≡ other
 unfolding AllToldAlike SayOrFault
-same_of_each Say HaveFault question answer other alike told apart (each_said.NotRead fault have _ is) (each_said.NotRead found has _ it) =
-    told fault found answer other have has is it
-same_of_each Say HaveFault question answer other alike told apart (each_said.NotRead fault have _ is) (each_said.OfEach records say _ it) =
+same_of_each Say HaveFault question answer other alike shown apart (each_said.NotRead fault have _ is) (each_said.NotRead found has _ it) =
+    shown fault found answer other have has is it
+same_of_each Say HaveFault question answer other alike shown apart (each_said.NotRead fault have _ is) (each_said.OfEach records say _ it) =
     absurd (apart records fault say have)
-same_of_each Say HaveFault question answer other alike told apart (each_said.OfEach records say _ is) (each_said.NotRead fault have _ it) =
+same_of_each Say HaveFault question answer other alike shown apart (each_said.OfEach records say _ is) (each_said.NotRead fault have _ it) =
     absurd (apart records fault say have)
-same_of_each Say HaveFault question answer other alike told apart (each_said.OfEach records say _ is) (each_said.OfEach others says _ it) =
+same_of_each Say HaveFault question answer other alike shown apart (each_said.OfEach records say _ is) (each_said.OfEach others says _ it) =
     one_of_each question records others answer other (all_same records others (alike records others say says)) is it
 
 -- a fault of bytes is reported in one way
 pub one_told : (reader : Format) (bytes : List ℕ) → AllToldAlike (HaveFault reader bytes)
 unfolding AllToldAlike
-one_told reader bytes fault other answer too have has told tells =
-    same_Some answer too (sym told ∙ ap to_fault (one_fault (lawful_of reader) bytes fault other have has) ∙ tells)
+one_told reader bytes fault other answer too have has shown tells =
+    same_Some answer too (sym shown ∙ ap to_fault (one_fault (lawful_of reader) bytes fault other have has) ∙ tells)
 
 -- bytes with a fault are not read as records
 pub say_or_fault : (reader : Format) (bytes : List ℕ) → SayOrFault (SayRecords reader bytes) (HaveFault reader bytes)
@@ -338,7 +338,7 @@ pub record IsMadeAlike (IsMade : List Play → Answer → Type 0) (plays : List 
   pub others : List Play
   pub traced : AllTraced plays others
   pub same : AreReadSame plays others
-  pub judged : All IsJudged plays
+  pub judged : All IsLegalPlay plays
   pub hands : AllAlike (hands_of plays) (hands_of others)
   pub made : IsMade others answer
 
@@ -427,8 +427,8 @@ pub lacks_none : (file : Option (List ℕ)) (game : AnyGame) → GivesGame file 
 lacks_none file game gives (inl none) = let there = gives.there in cc (none, there)
 lacks_none file game gives (inr lacks) = no_game file game lacks.0 gives lacks.1
 
-pub not_lacking : {X : Type 0} (told : Option FilesByName) (name : List ℕ) (game : AnyGame) (input read : X)
-    → OfFile told name (λ file. GivesGame file game) → IfSome told (λ files. GivesNone (files name) → read ≡ input)
+pub not_lacking : {X : Type 0} (shown : Option FilesByName) (name : List ℕ) (game : AnyGame) (input read : X)
+    → OfFile shown name (λ file. GivesGame file game) → IfSome shown (λ files. GivesNone (files name) → read ≡ input)
 not_lacking (Some files) name game input read gives = λ lacks. absurd (lacks_none (files name) game gives lacks)
 not_lacking None name game input read gives = tt
 
@@ -542,7 +542,7 @@ legal_in_way request reader target keep files bytes records plays out diag statu
 
 -- the answer to generated hands is done, and a run on them needs no input
 load_done : (seed hands : ℕ) (files : Files) (bytes : List ℕ) (answer : Answer) → IsAnswerIn (Load seed hands) files bytes answer → answer.status ≡ statuses.Done
-load_done seed hands files bytes answer is = ap (λ (a : Answer). a.status) is.told
+load_done seed hands files bytes answer is = ap (λ (a : Answer). a.status) is.shown
 
 not_done : (seed hands : ℕ) (files : Files) (bytes : List ℕ) (answer : Answer) (status : Status) → IsAnswerIn (Load seed hands) files bytes answer
     → answer.status ≡ status → NeedsNoInput status

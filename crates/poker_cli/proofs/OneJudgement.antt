@@ -5,7 +5,7 @@ use Rattle.convert_core.proofs.OneOutcome.{AllTheSame, not_judged, one_refusal, 
 use Rattle.convert_core.specs.Verdicts.{AreVerdictsOn, IsRight, Legal, Refused, Verdict, hand_in, legal_plays}
 use Rattle.hand_records.specs.declared.record.Record.{Record}
 use Rattle.convert_core.specs.declared.refusal.Refusal.{Refusal}
-use Rattle.poker_cli.specs.Judge.{each_verdict, judged_end, judged_said, verdict_line}
+use Rattle.poker_cli.specs.Judge.{each_verdict, verdict_line, verdicts_end, verdicts_said}
 
 -- verdicts on hands that say the same are printed the same, with the same number of legal hands
 record ArePrintedAlike (begun : List ℕ) (place : ℕ) (verdicts others : List Verdict) : Type 0 where
@@ -36,9 +36,9 @@ printed_alike begun place (Refused hand why ∷ verdicts) (Refused other reason 
     }
 
 pub same_judged : (begun : List ℕ) (records others : List Record) (verdicts too : List Verdict) → AllTheSame records others
-    → AreVerdictsOn records verdicts → AreVerdictsOn others too → judged_said begun verdicts ≡ judged_said begun too
+    → AreVerdictsOn records verdicts → AreVerdictsOn others too → verdicts_said begun verdicts ≡ verdicts_said begun too
 same_judged begun records others verdicts too same are is =
     let alike = printed_alike begun 0 verdicts too are.right is.right
     (subst (λ (hands : List Record). AllTheSame hands (map hand_in too)) (sym are.same) (subst (AllTheSame records) (sym is.same) same)) in
-    ap₂ (λ (lines : List ℕ) (legal : ℕ). lines ++ judged_end legal (length verdicts)) alike.lines alike.legal
-    ∙ ap (λ (count : ℕ). each_verdict begun 0 too ++ judged_end (length (legal_plays too)) count) alike.count
+    ap₂ (λ (lines : List ℕ) (legal : ℕ). lines ++ verdicts_end legal (length verdicts)) alike.lines alike.legal
+    ∙ ap (λ (count : ℕ). each_verdict begun 0 too ++ verdicts_end (length (legal_plays too)) count) alike.count

@@ -33,7 +33,7 @@ use Rattle.poker_cli.specs.Equity as in_equity
 use Rattle.poker_cli.specs.Views as in_views
 use Rattle.poker_cli.specs.Judge.{if_asked}
 use Rattle.poker_cli.specs.Run.{IsOfInput, IsOwn, OfBytes, ReadsNothing}
-use Rattle.poker_cli.specs.Told.{answer_told}
+use Rattle.poker_cli.specs.FaultAnswers.{answer_said}
 use Rattle.poker_cli.specs.declared.answer.Answer as made
 use Rattle.poker_cli.specs.declared.compare.Comparison.{Comparison}
 use Rattle.poker_cli.specs.declared.no_answer.NoAnswerError.{NoAnswerError}
@@ -71,7 +71,7 @@ unread_own fault None = tt
 unread_own fault (Some quantity) = tt
 
 fault_own : (fault : FormatFault) (answer : Answer) → to_fault fault ≡ Some answer → IsOfInput answer.status
-fault_own fault answer told = subst (λ (a : Answer). IsOfInput a.status) (is_to_unread fault answer told) (unread_own fault (excess_of fault))
+fault_own fault answer shown = subst (λ (a : Answer). IsOfInput a.status) (is_to_unread fault answer shown) (unread_own fault (excess_of fault))
 
 -- ---- what is made of hands
 
@@ -109,7 +109,7 @@ message_own (readers.Acpc game) seat plays answer is = views_own game seat plays
 message_own reader seat plays answer is = same_own answer _ is tt
 
 reply_own : (command : Command Format) (reader : Format) (plays : List Play) (answer : Answer) → IsReply command reader plays answer → IsOfInput answer.status
-reply_own commands.Game reader plays answer is = same_own answer _ is.told (first_game_own plays)
+reply_own commands.Game reader plays answer is = same_own answer _ is.shown (first_game_own plays)
 reply_own (commands.Options hand events) reader plays answer is = options_own hand events plays answer is
 reply_own (commands.Equity hand street) reader plays answer is = equity_own hand street plays answer is
 reply_own (commands.Judge lines) reader plays answer is = absurd is
@@ -123,12 +123,12 @@ reply_own command reader plays answer is = same_own answer _ is tt
 made_own : (Say : List Record → Type 0) (HaveFault : FormatFault → Type 0) (IsMade : List Play → Answer → Type 0)
     → ((plays : List Play) (answer : Answer) → IsMade plays answer → IsOfInput answer.status)
     → (answer : Answer) → IsAnswerTo Say HaveFault IsMade answer → IsOfInput answer.status
-made_own Say HaveFault IsMade made answer (parts.Unread fault have _ told) = fault_own fault answer told
+made_own Say HaveFault IsMade made answer (parts.Unread fault have _ shown) = fault_own fault answer shown
 made_own Say HaveFault IsMade made _ (parts.Refused number why is) = tt
 made_own Say HaveFault IsMade made answer (parts.Played plays read _ is) = made plays answer is
 
 judged_own : (Say : List Record → Type 0) (HaveFault : FormatFault → Type 0) (lines : List ℕ) (answer : Answer) → IsJudgement Say HaveFault lines answer → IsOfInput answer.status
-judged_own Say HaveFault lines answer (in_judge.NotJudged fault have _ told) = fault_own fault answer told
+judged_own Say HaveFault lines answer (in_judge.NotJudged fault have _ shown) = fault_own fault answer shown
 judged_own Say HaveFault lines _ (in_judge.Judged records say verdicts are) = tt
 
 points_own : (number : ℕ) (records : List Record) (answer : Answer) → IsEveryPoint number records answer → IsOfInput answer.status
@@ -149,7 +149,7 @@ of_each_own (of_each.EveryPoint hand) records answer is = points_own hand record
 of_each_own (of_each.Point hand events) records answer is = point_own hand events records answer is
 
 each_own : (Say : List Record → Type 0) (HaveFault : FormatFault → Type 0) (question : EachQuestion) (answer : Answer) → IsAnswerOfEach Say HaveFault question answer → IsOfInput answer.status
-each_own Say HaveFault question answer (each.NotRead fault have _ told) = fault_own fault answer told
+each_own Say HaveFault question answer (each.NotRead fault have _ shown) = fault_own fault answer shown
 each_own Say HaveFault question answer (each.OfEach records say _ is) = of_each_own question records answer is
 
 command_own : (command : Command Format) (reader : Format) (Say : List Record → Type 0) (HaveFault : FormatFault → Type 0) (lines : List ℕ) (answer : Answer)
@@ -170,7 +170,7 @@ both_own None hands others =
     elim (hands == others) as (λ same. IsOfInput (if same then to_same hands else to_other_count hands others).status) [ true ↦ tt | false ↦ tt ]
 
 beside_own : (other : Format) (notes : Bool) (file : List ℕ) (plays : List Play) (answer : Answer) → IsComparedWith other notes file plays answer → IsOfInput answer.status
-beside_own other notes file plays _ (in_compare.OtherUnread fault have answer told) = fault_own fault answer told
+beside_own other notes file plays _ (in_compare.OtherUnread fault have answer shown) = fault_own fault answer shown
 beside_own other notes file plays _ (in_compare.OtherRefused number why is) = tt
 beside_own other notes file plays _ (in_compare.OtherPlayed others read) = both_own (first_different notes 0 plays others) (length plays) (length others)
 
@@ -185,11 +185,11 @@ some_bytes (Some bytes) P This each is = each bytes is
 some_bytes None P This each is = each is.0 is.1
 
 pub of_way : (left : Option (List ℕ)) (by : Job) (result : Result made.Answer NoAnswerError)
-    → IfOk result (λ answer. OfBytes left (λ bytes. IsAnswerBy by bytes (answer_told answer))) → IfOk result (λ answer. IsOfInput answer.status)
-of_way left by (Ok answer) is = some_bytes left _ _ (λ bytes to. answer_own by.command by.reader bytes (answer_told answer) to) is
+    → IfOk result (λ answer. OfBytes left (λ bytes. IsAnswerBy by bytes (answer_said answer))) → IfOk result (λ answer. IsOfInput answer.status)
+of_way left by (Ok answer) is = some_bytes left _ _ (λ bytes to. answer_own by.command by.reader bytes (answer_said answer) to) is
 of_way left by (Err why) is = tt
 
 pub of_both : (left : Option (List ℕ)) (by : Comparison) (file : List ℕ) (result : Result made.Answer NoAnswerError)
-    → IfOk result (λ answer. OfBytes left (λ bytes. IsComparison by file bytes (answer_told answer))) → IfOk result (λ answer. IsOfInput answer.status)
-of_both left by file (Ok answer) is = some_bytes left _ _ (λ bytes to. comparison_own by file bytes (answer_told answer) to) is
+    → IfOk result (λ answer. OfBytes left (λ bytes. IsComparison by file bytes (answer_said answer))) → IfOk result (λ answer. IsOfInput answer.status)
+of_both left by file (Ok answer) is = some_bytes left _ _ (λ bytes to. comparison_own by file bytes (answer_said answer) to) is
 of_both left by file (Err why) is = tt

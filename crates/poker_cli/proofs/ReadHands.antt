@@ -10,7 +10,7 @@ use Rattle.acpc_reading.specs.RecordView.{IsOfGame, IsSetupOf}
 use Rattle.convert_core.specs.FormatLaws.{lawful_of}
 use Rattle.convert_core.specs.Lawful.{is_note}
 use Rattle.convert_core.specs.Conversion.{ReadAsPlays}
-use Rattle.hand_canon.specs.Judged.{IsJudged}
+use Rattle.hand_canon.specs.LegalPlay.{IsLegalPlay}
 use Rattle.hand_canon.specs.Sharp.{IsOther, is_sharp}
 use Rattle.hand_records.specs.Plays.{hands_of}
 use Rattle.hand_records.specs.declared.trace.Play.{Play}
@@ -34,7 +34,7 @@ module _ (reader : Format) where
   abbrev pub OddChipAtMost : Play → Type 0
   OddChipAtMost play = IfSome (unspelled_in reader keeps.Spelled play) (λ fact. fact ≡ facts.OddChip)
 
-  each_spelled : (plays : List Play) → AllByRecursion IsJudged plays
+  each_spelled : (plays : List Play) → AllByRecursion IsLegalPlay plays
       → ((play : Play) (fact : Unspelled) → unspelled_in reader keeps.Spelled play ≡ Some fact → is_sharp fact ≡ true → AllByRecursion (IsOther play) (hands_of plays))
       → AllByRecursion OddChipAtMost plays
   each_spelled [] judged other = tt
@@ -53,13 +53,13 @@ module _ (reader : Format) where
 
   pub read_spelled : (bytes : List ℕ) (plays : List Play) → ReadAsPlays (SayRecords reader bytes) plays → AllByRecursion OddChipAtMost plays
   read_spelled bytes plays read =
-      each_spelled plays (recursion_from_All IsJudged plays read.are.judged)
+      each_spelled plays (recursion_from_All IsLegalPlay plays read.are.judged)
       (λ play fact found is. subst (AllByRecursion (IsOther play)) (sym read.are.same) ((lawful_of reader).sharp keeps.Spelled play fact found is bytes read.records read.say))
 
 -- ---- one game
 
 -- the setup of a play that is read under a game is that of the game
-setup_at : (game : Game) (plays : List Play) (place : ℕ) (play : Play) → AllByRecursion IsJudged plays → AllByRecursion (IsOfGame game) (hands_of plays)
+setup_at : (game : Game) (plays : List Play) (place : ℕ) (play : Play) → AllByRecursion IsLegalPlay plays → AllByRecursion (IsOfGame game) (hands_of plays)
     → slice_get plays place ≡ Some play → IsSetupOf game play.trace.setup
 setup_at game [] place play judged of is = absurd (cc (is))
 setup_at game (p ∷ ps) zero play judged of is =
@@ -70,7 +70,7 @@ setup_at game (p ∷ ps) (suc place) play judged of is = setup_at game ps place 
 setup_read : (game : Game) (bytes : List ℕ) (plays : List Play) (hand : ℕ) (play : Play) → ReadAsPlays (SayRecords (readers.Acpc game) bytes) plays
     → hand_numbered plays hand ≡ Some play → IsSetupOf game play.trace.setup
 setup_read game bytes plays hand play read here =
-    setup_at game plays (hand - 1) play (recursion_from_All IsJudged plays read.are.judged)
+    setup_at game plays (hand - 1) play (recursion_from_All IsLegalPlay plays read.are.judged)
     (subst (AllByRecursion (IsOfGame game)) (sym read.are.same) read.say.each) here
 
 pub one_setup : (game : Game) (bytes too : List ℕ) (plays others : List Play) (hand another : ℕ) (play other : Play)

@@ -31,21 +31,21 @@ keeps_read input read reads asks (Err whys.ShelfFault) of rose alone = absurd (a
 keeps_read input read reads asks (Err whys.GameMissing) of rose alone = absurd (alone tt)
 keeps_read input read reads asks (Err whys.FileMissing) of rose alone = absurd (alone tt)
 
-pub none_of_plain : (from : PlainNotation) (command : Command PlainNotation) (left : Option (List ℕ)) (told : Option FilesByName) (why : NoAnswerError)
-    → (ComesFirst why → ⊥) → HasNoAnswer (Plain from command) left told why
-none_of_plain from command left told whys.ReadFault alone = of_all left _ (λ bytes. (tt, λ without. without))
-none_of_plain from command left told (whys.Memory memory) alone = tt
-none_of_plain from command left told whys.ShelfFault alone = absurd (alone tt)
-none_of_plain from command left told whys.GameMissing alone = absurd (alone tt)
-none_of_plain from command left told whys.FileMissing alone = absurd (alone tt)
+pub none_of_plain : (from : PlainNotation) (command : Command PlainNotation) (left : Option (List ℕ)) (shown : Option FilesByName) (why : NoAnswerError)
+    → (ComesFirst why → ⊥) → HasNoAnswer (Plain from command) left shown why
+none_of_plain from command left shown whys.ReadFault alone = of_all left _ (λ bytes. (tt, λ without. without))
+none_of_plain from command left shown (whys.Memory memory) alone = tt
+none_of_plain from command left shown whys.ShelfFault alone = absurd (alone tt)
+none_of_plain from command left shown whys.GameMissing alone = absurd (alone tt)
+none_of_plain from command left shown whys.FileMissing alone = absurd (alone tt)
 
-pub none_under_game : (name : List ℕ) (logs : Logs) (game : Game) (left : Option (List ℕ)) (told : Option FilesByName)
-    → OfFile told name (λ file. GivesGame file game) → (why : NoAnswerError) → (ComesFirst why → ⊥) → HasNoAnswer (Under name logs) left told why
-none_under_game name logs game left told gives whys.ReadFault alone = game_there told left name logs game gives
-none_under_game name logs game left told gives (whys.Memory memory) alone = tt
-none_under_game name logs game left told gives whys.ShelfFault alone = absurd (alone tt)
-none_under_game name logs game left told gives whys.GameMissing alone = absurd (alone tt)
-none_under_game name logs game left told gives whys.FileMissing alone = absurd (alone tt)
+pub none_under_game : (name : List ℕ) (logs : Logs) (game : Game) (left : Option (List ℕ)) (shown : Option FilesByName)
+    → OfFile shown name (λ file. GivesGame file game) → (why : NoAnswerError) → (ComesFirst why → ⊥) → HasNoAnswer (Under name logs) left shown why
+none_under_game name logs game left shown gives whys.ReadFault alone = game_there shown left name logs game gives
+none_under_game name logs game left shown gives (whys.Memory memory) alone = tt
+none_under_game name logs game left shown gives whys.ShelfFault alone = absurd (alone tt)
+none_under_game name logs game left shown gives whys.GameMissing alone = absurd (alone tt)
+none_under_game name logs game left shown gives whys.FileMissing alone = absurd (alone tt)
 
 -- if the shelf was asked before
 pub keeps_later : {S : Type 0} (input read : S) (reads : ℕ × ℕ) (before between now : ℕ) (result : Result made.Answer NoAnswerError)
@@ -56,17 +56,17 @@ keeps_later input read reads before between now (Err why) later kept = kept
 keeps_later input read reads before between now (Ok answer) later kept = kept
 
 -- if the file to compare with is asked for after a game
-pub none_beside : (sides : Sides) (name : List ℕ) (notes : Bool) (by : Comparison) (left : Option (List ℕ)) (told : Option FilesByName)
-    → OfGameFile told sides (λ game. IsComparisonOf game sides notes by) → (result : Result made.Answer NoAnswerError)
-    → (IsErrOf result whys.ReadFault → OfFile told name (λ file. IsNotThere file → ⊥))
+pub none_beside : (sides : Sides) (name : List ℕ) (notes : Bool) (by : Comparison) (left : Option (List ℕ)) (shown : Option FilesByName)
+    → OfGameFile shown sides (λ game. IsComparisonOf game sides notes by) → (result : Result made.Answer NoAnswerError)
+    → (IsErrOf result whys.ReadFault → OfFile shown name (λ file. IsNotThere file → ⊥))
     → IfErr result (λ why. why ≡ whys.GameMissing → ⊥)
-    → (IsErrOf result whys.FileMissing → OfFile told name (λ file. file ≡ None))
-    → IfErr result (λ why. HasNoAnswer (Compare sides name notes) left told why)
-none_beside sides name notes by left told so (Ok answer) there of_file missing = tt
-none_beside sides name notes by left told so (Err whys.ReadFault) there of_file missing =
-    read_beside told left sides name notes by so (there refl)
-none_beside sides name notes by left told so (Err whys.ShelfFault) there of_file missing = tt
-none_beside sides name notes by left told so (Err whys.GameMissing) there of_file missing = absurd (of_file refl)
-none_beside sides name notes by left told so (Err whys.FileMissing) there of_file missing =
-    missing_reply told left sides name notes by so (missing refl)
-none_beside sides name notes by left told so (Err (whys.Memory memory)) there of_file missing = tt
+    → (IsErrOf result whys.FileMissing → OfFile shown name (λ file. file ≡ None))
+    → IfErr result (λ why. HasNoAnswer (Compare sides name notes) left shown why)
+none_beside sides name notes by left shown so (Ok answer) there of_file missing = tt
+none_beside sides name notes by left shown so (Err whys.ReadFault) there of_file missing =
+    read_beside shown left sides name notes by so (there refl)
+none_beside sides name notes by left shown so (Err whys.ShelfFault) there of_file missing = tt
+none_beside sides name notes by left shown so (Err whys.GameMissing) there of_file missing = absurd (of_file refl)
+none_beside sides name notes by left shown so (Err whys.FileMissing) there of_file missing =
+    missing_reply shown left sides name notes by so (missing refl)
+none_beside sides name notes by left shown so (Err (whys.Memory memory)) there of_file missing = tt

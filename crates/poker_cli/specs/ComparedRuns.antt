@@ -10,7 +10,7 @@ use Rattle.hand_records.specs.SameHands.{AllPaired, AreSameHand}
 use Rattle.hand_records.specs.declared.trace.Play.{Play}
 use Rattle.poker_cli.specs.AnswerParts.{Answer, hand_numbered, most_input}
 use Rattle.poker_cli.specs.Compare.{DifferentHand, to_different, to_other_count, to_same}
-use Rattle.poker_cli.specs.Headline.{IsTold}
+use Rattle.poker_cli.specs.Headline.{IsPrinted}
 use Rattle.convert_core.specs.Formats.{SayRecords}
 use Rattle.poker_cli.specs.Run.{Sinks}
 use Rattle.poker_cli.specs.declared.compare.Comparison.{Comparison}
@@ -76,7 +76,7 @@ pub record AreFoundOther (by : Comparison) (text bytes : List ℕ) (diag : Sinks
   pub both : BothRead by text bytes plays others
   pub answer : Answer
   pub differ : AreOther by.notes plays others answer
-  pub told : IsTold diag answer.line
+  pub shown : IsPrinted diag answer.line
 
 -- a status if two files that read so do not have the same hands: Differs, or a device could not be
 -- read, or memory ran out

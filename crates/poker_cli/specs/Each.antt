@@ -7,7 +7,7 @@ use Rattle.convert_core.specs.Verdicts.{Refused}
 use Rattle.convert_core.specs.declared.format_fault.FormatFault.{FormatFault}
 use Rattle.convert_core.specs.declared.refusal.Refusal.{Refusal}
 use Rattle.hand_canon.specs.Agreement.{HasBoundedPots}
-use Rattle.hand_canon.specs.Judged.{IsJudged, IsTraceOfLegal}
+use Rattle.hand_canon.specs.LegalPlay.{IsLegalPlay, IsTraceOfLegal}
 use Rattle.hand_options.specs.EveryPoint.{AreOptionTexts}
 use Rattle.hand_options.specs.Legal.{AreOptions}
 use Rattle.hand_options.specs.Printed.{options_said}
@@ -26,7 +26,7 @@ use Rattle.replay_core.specs.declared.fault.ReplayFault.{ReplayFault}
 
 -- why a hand is refused; none if it is legal and agrees with what is stated of it
 abbrev pub IsVerdictOn : Record → Option Refusal → Type 0
-IsVerdictOn hand None = (trace : Trace) × IsJudged (record { hand = hand; trace = trace })
+IsVerdictOn hand None = (trace : Trace) × IsLegalPlay (record { hand = hand; trace = trace })
 IsVerdictOn hand (Some why) = IsRefusedFor hand why
 
 -- the line of the verdict on a refused hand, as `judge` has it; nothing for other hands

@@ -30,5 +30,5 @@ GivesFirstGame (play ∷ plays) answer =
 -- The answer to a request for the game file of the first hand: its only form, which can be used as
 -- a game file again.
 pub record IsGameReply (plays : List Play) (answer : Answer) : Type 0 where
-  pub told : answer ≡ to_first_game plays
+  pub shown : answer ≡ to_first_game plays
   pub taken : GivesFirstGame plays answer

@@ -53,6 +53,6 @@ HasNoGame file reasons.ShelfFault = Unit {0}
 HasNoGame file (reasons.Memory memory) = Unit {0}
 
 -- the answer reports what is wrong with the game file
-abbrev pub IsGameFileErrorTold : GameFileError → Answer → Type 0
-IsGameFileErrorTold lacks.TooLong answer = answer ≡ to_game_excess
-IsGameFileErrorTold (lacks.Bad fault) answer = answer ≡ to_bad_game fault
+abbrev pub IsGameFileErrorAnswer : GameFileError → Answer → Type 0
+IsGameFileErrorAnswer lacks.TooLong answer = answer ≡ to_game_excess
+IsGameFileErrorAnswer (lacks.Bad fault) answer = answer ≡ to_bad_game fault

@@ -20,7 +20,7 @@ use Rattle.poker_cli.specs.AnswerParts.{Answer, most_input, refused_line, to_fau
 use Rattle.poker_cli.specs.Files.{Files}
 use Rattle.convert_core.specs.Formats.{HaveFault, ReadsBack, SayRecords, SpellPlays, first_refusal_in, unspelled_in}
 use Rattle.poker_cli.specs.Limits.{excess_line}
-use Rattle.poker_cli.specs.Run.{EndsLeaving, RefusesNothing, Sinks, TellsLine}
+use Rattle.poker_cli.specs.Run.{EndsLeaving, PrintsLine, RefusesNothing, Sinks}
 use Rattle.poker_cli.specs.Ways.{IsWay, way}
 use Rattle.poker_cli.specs.declared.status.Status.{Status}
 use Rattle.poker_cli.specs.declared.status.Status.TheVariants as statuses
@@ -50,13 +50,13 @@ pub record ConvertsInto (from to : Format) (keep : Keep) (bytes output : List �
   pub back : ReadsBack to keep plays output
 
 -- this line is printed on a sink
-abbrev pub IsTold : Sinks → List ℕ → Type 0
-IsTold diag line = TellsLine diag.before diag.now diag.held diag.holds line
+abbrev pub IsPrinted : Sinks → List ℕ → Type 0
+IsPrinted diag line = PrintsLine diag.before diag.now diag.held diag.holds line
 
 -- nothing is written, and this line is printed
-pub record TellsAlone (out diag : Sinks) (line : List ℕ) : Type 0 where
+pub record PrintsAlone (out diag : Sinks) (line : List ℕ) : Type 0 where
   pub unwritten : out.holds ≡ out.held
-  pub told : IsTold diag line
+  pub shown : IsPrinted diag line
 
 -- All is done, and the status is 0: the hands can be converted, exactly the bytes that spell them
 -- were appended to the output, and no line was printed.
@@ -75,7 +75,7 @@ pub record IsCutShort (from to : Format) (keep : Keep) (bytes : List ℕ) (out d
     pub converts : ConvertsInto from to keep bytes output
     pub written : AppendsPart out.held out.holds output
     pub failed : Rose out.before out.now
-    pub told : IsTold diag (codes "write fault\n")
+    pub shown : IsPrinted diag (codes "write fault\n")
 
 -- A hand is refused: the bytes read as hands, and this is the number, from 1, of the first refused
 -- hand, and why it is refused: its first illegal action, or another fault that comes first.
@@ -84,7 +84,7 @@ pub record NamesRefused (from : Format) (bytes : List ℕ) (out diag : Sinks) : 
   pub number : ℕ
   pub why : Refusal
   pub first : ReadAsRefused (SayRecords from bytes) number why
-  pub told : TellsAlone out diag (refused_line number why)
+  pub shown : PrintsAlone out diag (refused_line number why)
 
 -- A fact cannot be written: all hands are legal and every stated fact agrees, and this is the
 -- number of the first hand with a fact to be kept that the target notation cannot write, and its
@@ -95,7 +95,7 @@ pub record NamesUnspelled (from to : Format) (keep : Keep) (bytes : List ℕ) (o
   pub number : ℕ
   pub fact : Unspelled
   pub first : HasUnspelled (SayRecords from bytes) (unspelled_in to keep) number fact
-  pub told : TellsAlone out diag (unspelled_line number fact)
+  pub shown : PrintsAlone out diag (unspelled_line number fact)
 
 -- The bytes cannot be read as hands: this is their first fault, which is answered with this status
 -- and this line.
@@ -107,12 +107,12 @@ pub record NamesFault (from : Format) (bytes : List ℕ) (out diag : Sinks) (sta
     pub answer : Answer
     pub answered : to_fault fault ≡ Some answer
     pub same : answer.status ≡ status
-    pub told : TellsAlone out diag answer.line
+    pub shown : PrintsAlone out diag answer.line
 
 -- The input has too many bytes.
 pub record IsTooLong (bytes : List ℕ) (out diag : Sinks) : Type 0 where
   pub beyond : most_input < length bytes
-  pub told : TellsAlone out diag (excess_line (codes "input bytes") most_input)
+  pub shown : PrintsAlone out diag (excess_line (codes "input bytes") most_input)
 
 -- the notation is that of logs, which are under a game
 abbrev pub IsOfLogs : Format → Type 0
@@ -134,11 +134,11 @@ ConversionEnds from to keep bytes out diag statuses.Limit =
 ConversionEnds from to keep bytes out diag statuses.WriteFault =
     IsCutShort from to keep bytes out diag
 ConversionEnds from to keep bytes out diag statuses.ReadFault =
-    TellsAlone out diag (codes "read fault\n")
+    PrintsAlone out diag (codes "read fault\n")
 ConversionEnds from to keep bytes out diag statuses.Memory =
-    WasRefused × TellsAlone out diag (codes "out of memory\n")
+    WasRefused × PrintsAlone out diag (codes "out of memory\n")
 ConversionEnds from to keep bytes out diag statuses.ShelfFault =
-    (IsOfLogs from ⊎ IsOfLogs to) × TellsAlone out diag (codes "shelf fault\n")
+    (IsOfLogs from ⊎ IsOfLogs to) × PrintsAlone out diag (codes "shelf fault\n")
 ConversionEnds from to keep bytes out diag statuses.Usage = ⊥
 ConversionEnds from to keep bytes out diag statuses.GameMissing = ⊥
 ConversionEnds from to keep bytes out diag statuses.BadGame = ⊥

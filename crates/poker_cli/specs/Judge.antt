@@ -38,14 +38,14 @@ each_verdict lines place (verdict ∷ others) =
     ++ each_verdict lines (place + 1) others
 
 -- the last line: the number of legal hands, and of all hands
-abbrev pub judged_end : ℕ → ℕ → List ℕ
-judged_end legal hands =
+abbrev pub verdicts_end : ℕ → ℕ → List ℕ
+verdicts_end legal hands =
     codes "legal hands: " ++ (decimal legal ++ (codes " of " ++ (decimal hands ++ codes "\n")))
 
 -- all that `judge` prints
-abbrev pub judged_said : (lines : List ℕ) → List Verdict → List ℕ
-judged_said lines verdicts =
-    each_verdict lines 0 verdicts ++ judged_end (length (legal_plays verdicts)) (length verdicts)
+abbrev pub verdicts_said : (lines : List ℕ) → List Verdict → List ℕ
+verdicts_said lines verdicts =
+    each_verdict lines 0 verdicts ++ verdicts_end (length (legal_plays verdicts)) (length verdicts)
 
 -- These are the lines of these verdicts, and the number of legal hands among them; it is still
 -- known on which lines of the input the hands begin.
@@ -56,10 +56,10 @@ pub record ArePrinted (lines known : List ℕ) (text : List ℕ) (legal : ℕ) (
   pub same : known ≡ lines
 
 -- The text is what is printed for the verdicts on records.
-pub record IsJudged (lines : List ℕ) (records : List Record) (text : List ℕ) : Type 0 where
+pub record IsVerdictsText (lines : List ℕ) (records : List Record) (text : List ℕ) : Type 0 where
   pub verdicts : List Verdict
   pub are : AreVerdictsOn records verdicts
-  pub said : text ≡ judged_said lines verdicts
+  pub said : text ≡ verdicts_said lines verdicts
 
 -- The answer to `judge`; the notation of the bytes says which records are in them and which fault
 -- they have, and `lines` on which lines the hands begin, if that is asked for.
@@ -72,4 +72,4 @@ pub data IsJudgement (Say : List Record → Type 0) (HaveFault : FormatFault →
   -- the verdict on each hand is printed: legal or refused
   Judged : (records : List Record) → Say records → (verdicts : List Verdict)
       → AreVerdictsOn records verdicts
-      → IsJudgement Say HaveFault lines (done (judged_said lines verdicts))
+      → IsJudgement Say HaveFault lines (done (verdicts_said lines verdicts))

@@ -17,7 +17,7 @@ pub mod Load
 pub mod Compare
 pub mod ComparedFiles
 pub mod Answer
-pub mod Told
+pub mod FaultAnswers
 pub mod Texts
 pub mod Played
 pub mod OneAnswer
@@ -26,6 +26,6 @@ pub mod Replied
 pub mod Headline
 pub mod ComparedRuns
 pub mod LegalInputs
-pub mod RunTells
+pub mod RunReports
 pub mod Process
 pub mod Ran

@@ -8,4 +8,4 @@ use Rattle.poker_cli.specs.AnswerParts.{Answer, done}
 pub record IsSummed (seed hands : ℕ) (answer : Answer) : Type 0 where
   pub summary : Summary
   pub load : IsLoad seed hands summary
-  pub told : answer ≡ done (summary_text summary)
+  pub shown : answer ≡ done (summary_text summary)

@@ -8,8 +8,8 @@ use Rattle.std.specs.declared.vec.IntoIter.{IntoIter}
 use Rattle.card_set.specs.Refusal.{WasRefused}
 use Rattle.command_words.specs.Words.{request_said}
 use Rattle.poker_cli.specs.Files.{FilesByName}
-use Rattle.poker_cli.specs.Headline.{EndsOver, IsTold}
-use Rattle.poker_cli.specs.Run.{AsksInTurn, LacksFile, Leaves, MakesHands, Sinks, Tells, WhereTold}
+use Rattle.poker_cli.specs.Headline.{EndsOver, IsPrinted}
+use Rattle.poker_cli.specs.Run.{AsksInTurn, LacksFile, Leaves, MakesHands, Reports, Sinks, WhereShown}
 use Rattle.poker_cli.specs.declared.status.Status.{Status}
 use Rattle.poker_cli.specs.declared.status.Status.TheVariants as statuses
 
@@ -21,17 +21,17 @@ words_given (Err error) = []
 -- All that the contract of `run` says of a run on these words that ends with this status, clause by
 -- clause. `reads` and `asks` are the fault counts of the source and of the shelf.
 pub record RunKeeps {S H K D : Type 0} (words : List (List ℕ)) (left : Option (List ℕ))
-    (told : Option FilesByName) (Asked : H → H → List ℕ → Type 0) (reads asks : ℕ × ℕ)
+    (shown : Option FilesByName) (Asked : H → H → List ℕ → Type 0) (reads asks : ℕ × ℕ)
     (out diag : Sinks) (status : Status) (input read : S) (shelf seen : H) (sink written : K)
     (lines heard : D) : Type 0 where
   pub memory : status ≡ statuses.Memory → WasRefused
   pub usage : (status ≡ statuses.Usage) ↔ (request_said words ≡ None)
-  pub ends : IfSome (request_said words) (λ request. WhereTold request left told (λ files bytes.
+  pub ends : IfSome (request_said words) (λ request. WhereShown request left shown (λ files bytes.
       EndsOver request files bytes out diag status (written ≡ sink)))
-  pub tells : Tells status reads asks out diag
+  pub tells : Reports status reads asks out diag
   pub leaves : Leaves status input read sink written lines heard
-  pub in_turn : AsksInTurn Asked told (request_said words) status shelf seen
-  pub without_file : IfSome (request_said words) (λ request. LacksFile request told → read ≡ input)
+  pub in_turn : AsksInTurn Asked shown (request_said words) status shelf seen
+  pub without_file : IfSome (request_said words) (λ request. LacksFile request shown → read ≡ input)
   pub without_input : IfSome (request_said words) (λ request. MakesHands request → read ≡ input)
 
 -- There was no memory for the words: nothing is read, asked for or written, and the line says so.
@@ -39,7 +39,7 @@ pub record LacksWords {S H K : Type 0} (diag : Sinks) (status : Status) (input r
     (shelf seen : H) (sink written : K) : Type 0 where
   pub memory : status ≡ statuses.Memory
   pub refused : WasRefused
-  pub told : IsTold diag (codes "out of memory\n")
+  pub shown : IsPrinted diag (codes "out of memory\n")
   pub unread : read ≡ input
   pub unasked : seen ≡ shelf
   pub unwritten : written ≡ sink

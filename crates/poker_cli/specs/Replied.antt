@@ -3,7 +3,7 @@ use Rattle.std.specs.Prelude.{◌≡◌, ℕ, List, Option, Result, Ok, Err}
 use Rattle.command_words.specs.Words.{Request}
 use Rattle.host_io.specs.Faults.{Rose}
 use Rattle.poker_cli.specs.Files.{FilesByName}
-use Rattle.poker_cli.specs.Run.{AsksForFile, IsFileMissing, IsGameMissing, IsOwn, IsWithoutFile, ReadsHands, ReadsNothing, WhereTold}
+use Rattle.poker_cli.specs.Run.{AsksForFile, IsFileMissing, IsGameMissing, IsOwn, IsWithoutFile, ReadsHands, ReadsNothing, WhereShown}
 use Rattle.poker_cli.specs.declared.answer.Answer as made
 use Rattle.poker_cli.specs.declared.no_answer.NoAnswerError.{NoAnswerError}
 use Rattle.poker_cli.specs.declared.no_answer.NoAnswerError.TheVariants as whys
@@ -11,17 +11,17 @@ use Rattle.poker_cli.specs.declared.no_answer.NoAnswerError.TheVariants as whys
 -- A request has no answer for this reason, by the bytes that a source has left and the files on a
 -- shelf: the input was to be read and no file was missing, or the shelf failed, or a file that is
 -- asked for is not there. Nothing is known of them if memory ran out.
-abbrev pub HasNoAnswer : Request → (left : Option (List ℕ)) → (told : Option FilesByName)
+abbrev pub HasNoAnswer : Request → (left : Option (List ℕ)) → (shown : Option FilesByName)
     → NoAnswerError → Type 0
-HasNoAnswer request left told whys.ReadFault =
-    WhereTold request left told (λ files bytes.
+HasNoAnswer request left shown whys.ReadFault =
+    WhereShown request left shown (λ files bytes.
     ReadsHands request × (IsWithoutFile request files → ⊥))
-HasNoAnswer request left told whys.ShelfFault = AsksForFile request
-HasNoAnswer request left told whys.GameMissing =
-    WhereTold request left told (λ files bytes. IsGameMissing request files)
-HasNoAnswer request left told whys.FileMissing =
-    WhereTold request left told (λ files bytes. IsFileMissing request files)
-HasNoAnswer request left told (whys.Memory memory) = Unit {0}
+HasNoAnswer request left shown whys.ShelfFault = AsksForFile request
+HasNoAnswer request left shown whys.GameMissing =
+    WhereShown request left shown (λ files bytes. IsGameMissing request files)
+HasNoAnswer request left shown whys.FileMissing =
+    WhereShown request left shown (λ files bytes. IsFileMissing request files)
+HasNoAnswer request left shown (whys.Memory memory) = Unit {0}
 
 -- What holds after a reply, whether it is an answer or a reason why there is none: the status of an
 -- answer is one that an answer can have, a device fault is reported only if its count of faults

@@ -42,8 +42,8 @@ abbrev pub line_of : Answer → Status → List ℕ
 line_of answer status = unwrap_or (fixed_line status) answer.line
 
 -- a line is printed whole, or a part of it if the count of faults rose
-abbrev pub TellsLine : (before now : ℕ) → Option (List ℕ) → Option (List ℕ) → List ℕ → Type 0
-TellsLine before now old new line =
+abbrev pub PrintsLine : (before now : ℕ) → Option (List ℕ) → Option (List ℕ) → List ℕ → Type 0
+PrintsLine before now old new line =
     Appends old new line ⊎ (Rose before now × AppendsPart old new line)
 
 -- what is written: the whole output after Done, and a first part of it after WriteFault
@@ -82,21 +82,21 @@ OfFile None name P = (file : Option (List ℕ)) × P file
 
 -- what holds of the game file of a comparison, if one is named
 abbrev pub OfGameFile : Option FilesByName → Sides → (Option (List ℕ) → Type 0) → Type 0
-OfGameFile told (PlainSides from other) P = P None
-OfGameFile told (SidesUnder name from other) P = OfFile told name P
+OfGameFile shown (PlainSides from other) P = P None
+OfGameFile shown (SidesUnder name from other) P = OfFile shown name P
 
 -- What holds of the files and the bytes of a request. If the source does not show its bytes, it
 -- holds of some bytes, and if the shelf does not show its files, of some files: one for each name
 -- that is asked for, even if a name is asked for twice. If hands are generated, neither is needed,
 -- and if no log is read or written and nothing is compared, the shelf is not needed.
-abbrev pub WhereTold : Request → Option (List ℕ) → Option FilesByName → (Files → List ℕ → Type 0)
+abbrev pub WhereShown : Request → Option (List ℕ) → Option FilesByName → (Files → List ℕ → Type 0)
     → Type 0
-WhereTold (Load seed hands) left told P = P no_files []
-WhereTold (Plain from command) left told P = OfBytes left (P no_files)
-WhereTold (Under name logs) left told P =
-    OfFile told name (λ game. OfBytes left (P (record { game = game; other = None })))
-WhereTold (Compare sides name notes) left told P =
-    OfGameFile told sides (λ game. OfFile told name (λ other.
+WhereShown (Load seed hands) left shown P = P no_files []
+WhereShown (Plain from command) left shown P = OfBytes left (P no_files)
+WhereShown (Under name logs) left shown P =
+    OfFile shown name (λ game. OfBytes left (P (record { game = game; other = None })))
+WhereShown (Compare sides name notes) left shown P =
+    OfGameFile shown sides (λ game. OfFile shown name (λ other.
     OfBytes left (P (record { game = game; other = other }))))
 
 -- the request generates hands
@@ -117,28 +117,28 @@ AsksForFile request = ⊥
 
 -- the game file gives a game, if the shelf shows its files
 abbrev pub GivesSome : Option FilesByName → (name : List ℕ) → Type 0
-GivesSome told name = IfSome told (λ files. (found : Game) × GivesGame (files name) found)
+GivesSome shown name = IfSome shown (λ files. (found : Game) × GivesGame (files name) found)
 
 -- The names that a request asks the shelf for, each once and in order: that of the game file, and
 -- that of the file to compare with, which is asked for only if the game file gives a game. `Asked`
 -- relates the shelf before and after one name was asked for.
 abbrev pub Asks : {H : Type 0} → (Asked : H → H → List ℕ → Type 0) → Option FilesByName → Request
     → (shelf seen : H) → Type 0
-Asks Asked told (Load seed hands) shelf seen = seen ≡ shelf
-Asks Asked told (Plain from command) shelf seen = seen ≡ shelf
-Asks Asked told (Under game logs) shelf seen = Asked shelf seen game
-Asks Asked told (Compare (PlainSides from other) file notes) shelf seen = Asked shelf seen file
-Asks {H} Asked told (Compare (SidesUnder game from other) file notes) shelf seen =
+Asks Asked shown (Load seed hands) shelf seen = seen ≡ shelf
+Asks Asked shown (Plain from command) shelf seen = seen ≡ shelf
+Asks Asked shown (Under game logs) shelf seen = Asked shelf seen game
+Asks Asked shown (Compare (PlainSides from other) file notes) shelf seen = Asked shelf seen file
+Asks {H} Asked shown (Compare (SidesUnder game from other) file notes) shelf seen =
     (between : H) × (Asked shelf between game
-    × ((seen ≡ between) ⊎ (GivesSome told game × Asked between seen file)))
+    × ((seen ≡ between) ⊎ (GivesSome shown game × Asked between seen file)))
 
 -- the names that a run with this status asks the shelf for: those of the request; none if the words
 -- are no request or memory ran out before
 abbrev pub AsksInTurn : {H : Type 0} → (Asked : H → H → List ℕ → Type 0) → Option FilesByName
     → Option Request → Status → (shelf seen : H) → Type 0
-AsksInTurn Asked told None status shelf seen = seen ≡ shelf
-AsksInTurn Asked told (Some request) status shelf seen =
-    Asks Asked told request shelf seen ⊎ ((status ≡ statuses.Memory) × (seen ≡ shelf))
+AsksInTurn Asked shown None status shelf seen = seen ≡ shelf
+AsksInTurn Asked shown (Some request) status shelf seen =
+    Asks Asked shown request shelf seen ⊎ ((status ≡ statuses.Memory) × (seen ≡ shelf))
 
 -- the game file that the request names is not there
 abbrev pub IsGameMissing : Request → Files → Type 0
@@ -176,7 +176,7 @@ LacksFile (Under name logs) (Some files) = GivesNone (files name)
 LacksFile (Compare (PlainSides from other) file notes) (Some files) = IsNotThere (files file)
 LacksFile (Compare (SidesUnder game from other) file notes) (Some files) =
     GivesNone (files game) ⊎ IsNotThere (files file)
-LacksFile request told = ⊥
+LacksFile request shown = ⊥
 
 -- A run that got to its answer: the answer to its files and its input, the status that follows from
 -- it, what was written of its output, and its line.
@@ -186,7 +186,7 @@ pub record Answers (request : Request) (files : Files) (bytes : List ℕ) (out d
   pub to_input : IsAnswerIn request files bytes answer
   pub ends : MayEnd answer status
   pub written : Writes out.held out.holds answer status
-  pub line : TellsLine diag.before diag.now diag.held diag.holds (line_of answer status)
+  pub line : PrintsLine diag.before diag.now diag.held diag.holds (line_of answer status)
 
 -- How a run of a request on these files and bytes may end: with the answer to them, or before it,
 -- if a file is not there, a file or the input could not be read, or memory ran out. The input is
@@ -272,15 +272,15 @@ ReadsNothing _ = ⊥
 -- What holds of a run that ends with this status: a device fault is reported only if its count of
 -- faults rose in the run, and if the line of the status does not depend on the input, it is
 -- printed. `reads` and `asks` are the fault counts of the source and of the shelf.
-pub record Tells (status : Status) (reads asks : ℕ × ℕ) (out diag : Sinks) : Type 0 where
+pub record Reports (status : Status) (reads asks : ℕ × ℕ) (out diag : Sinks) : Type 0 where
   pub read_fault : status ≡ statuses.ReadFault → Rose reads.0 reads.1
   pub write_fault : status ≡ statuses.WriteFault → Rose out.before out.now
   pub shelf_fault : status ≡ statuses.ShelfFault → Rose asks.0 asks.1
-  pub fixed_line : IfSome (fixed_line status) (TellsLine diag.before diag.now diag.held diag.holds)
+  pub fixed_line : IfSome (fixed_line status) (PrintsLine diag.before diag.now diag.held diag.holds)
 
 -- Which devices stay as they were in a run that ends with this status.
 pub record Leaves {S K D : Type 0} (status : Status) (input read : S) (out written : K)
-    (diag told : D) : Type 0 where
+    (diag shown : D) : Type 0 where
   pub unread : ReadsNothing status → read ≡ input
   pub nothing_written : WritesNothing status → written ≡ out
-  pub quiet : status ≡ statuses.Done → told ≡ diag
+  pub quiet : status ≡ statuses.Done → shown ≡ diag

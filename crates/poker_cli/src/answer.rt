@@ -5,7 +5,7 @@ ghost use Rattle.poker_cli.specs.Answer.{IsAnswer, IsAnswerOf};
 ghost use Rattle.poker_cli.specs.AnswerParts.{most_input};
 ghost use Rattle.convert_core.specs.Faults.{excess_of};
 ghost use Rattle.convert_core.specs.Formats.{HaveFault, SayRecords, first_lines};
-ghost use Rattle.poker_cli.specs.Told.{IsToldOf, IsToldPlaysFault, IsToldText, answer_told};
+ghost use Rattle.poker_cli.specs.FaultAnswers.{IsFaultAnswer, IsPlaysFaultAnswer, IsTextAnswer, answer_said};
 
 use crate::check::answer_with_check;
 use crate::convert::answer_with_hands;
@@ -46,7 +46,7 @@ pub fn answer_to(
     bytes: &[u8],
 ) -> Result<Answer, Memory>
     requires { length bytes.now ≤ most_input }
-    ensures { IfOk result (λ answer. IsAnswer command reader.now bytes.now (answer_told answer)) }
+    ensures { IfOk result (λ answer. IsAnswer command reader.now bytes.now (answer_said answer)) }
 {
     answer_from(alloc, command, reader, bytes)
 }
@@ -59,7 +59,7 @@ fn answer_from(
     bytes: &[u8],
 ) -> Result<Answer, Memory>
     ensures { IfOk result (λ answer. IsAnswerOf command from.now (SayRecords from.now bytes.now)
-        (HaveFault from.now bytes.now) (first_lines from.now bytes.now) (answer_told answer)) }
+        (HaveFault from.now bytes.now) (first_lines from.now bytes.now) (answer_said answer)) }
 {
     match command {
         Command::Check => answer_with_check(alloc, from, bytes),
@@ -78,7 +78,7 @@ fn answer_from(
 
 /// The answer with what is printed about all hands, or with the first refused hand.
 pub fn answer_with_text(alloc: Global, text: Result<String, PlaysFault>) -> Result<Answer, Memory>
-    ensures { IfOk result (λ answer. IsToldText text (answer_told answer)) }
+    ensures { IfOk result (λ answer. IsTextAnswer text (answer_said answer)) }
 {
     match text {
         Ok(text) => Ok(done_with(alloc, text)),
@@ -88,7 +88,7 @@ pub fn answer_with_text(alloc: Global, text: Result<String, PlaysFault>) -> Resu
 
 // The answer for hands that have no plays.
 fn answer_to_plays_fault(alloc: Global, fault: &PlaysFault) -> Result<Answer, Memory>
-    ensures { IfOk result (λ answer. IsToldPlaysFault fault.now (answer_told answer)) }
+    ensures { IfOk result (λ answer. IsPlaysFaultAnswer fault.now (answer_said answer)) }
 {
     match fault {
         PlaysFault::Refused { hand, why } => answer_to_refused(alloc, *hand, why),
@@ -98,7 +98,7 @@ fn answer_to_plays_fault(alloc: Global, fault: &PlaysFault) -> Result<Answer, Me
 
 /// The answer for input that cannot be converted or replayed.
 pub fn answer_to_fault(alloc: Global, fault: &ConvertFault) -> Result<Answer, Memory>
-    ensures { IfOk result (λ answer. IsToldOf fault.now (answer_told answer)) }
+    ensures { IfOk result (λ answer. IsFaultAnswer fault.now (answer_said answer)) }
 {
     match fault {
         ConvertFault::Format(fault) => answer_to_unread(alloc, fault),
@@ -110,7 +110,7 @@ pub fn answer_to_fault(alloc: Global, fault: &ConvertFault) -> Result<Answer, Me
 
 // The answer to bytes that cannot be read as hands.
 fn answer_to_unread(alloc: Global, fault: &FormatFault) -> Result<Answer, Memory>
-    ensures { IfOk result (λ answer. definition.to_fault fault.now ≡ Some (answer_told answer)) }
+    ensures { IfOk result (λ answer. definition.to_fault fault.now ≡ Some (answer_said answer)) }
 {
     match fault.memory() {
         Some(memory) => Err(memory),
@@ -120,7 +120,7 @@ fn answer_to_unread(alloc: Global, fault: &FormatFault) -> Result<Answer, Memory
 
 // The answer to bytes that have this fault.
 fn answer_to_wrong(alloc: Global, fault: &FormatFault) -> Result<Answer, Memory>
-    ensures { IfOk result (λ answer. answer_told answer
+    ensures { IfOk result (λ answer. answer_said answer
         ≡ definition.to_unread fault.now (excess_of fault.now)) }
 {
     match fault.excess() {
@@ -137,7 +137,7 @@ fn answer_to_wrong(alloc: Global, fault: &FormatFault) -> Result<Answer, Memory>
 
 /// The answer if the hand with this number is refused.
 pub fn answer_to_refused(alloc: Global, hand: u32, why: &Refusal) -> Result<Answer, Memory>
-    ensures { IfOk result (λ answer. answer_told answer ≡ definition.to_refusal hand why.now) }
+    ensures { IfOk result (λ answer. answer_said answer ≡ definition.to_refusal hand why.now) }
 {
     let line = try_format!(in alloc; "refused: hand {hand}: {why}\n")?;
     Ok(refusal(alloc, Status::Refused, line))
@@ -145,7 +145,7 @@ pub fn answer_to_refused(alloc: Global, hand: u32, why: &Refusal) -> Result<Answ
 
 /// The answer if a fact of the hand with this number cannot be written in the target notation.
 pub fn answer_to_unspelled(alloc: Global, hand: u32, fact: Unspelled) -> Result<Answer, Memory>
-    ensures { IfOk result (λ answer. answer_told answer ≡ definition.to_unspelled hand fact) }
+    ensures { IfOk result (λ answer. answer_said answer ≡ definition.to_unspelled hand fact) }
 {
     let line = try_format!(in alloc; "unspelled: hand {hand}: {fact}\n")?;
     Ok(refusal(alloc, Status::Unspelled, line))
@@ -153,7 +153,7 @@ pub fn answer_to_unspelled(alloc: Global, hand: u32, fact: Unspelled) -> Result<
 
 /// Hand number past the end of the input, which has `hands` hands.
 pub fn no_hand(alloc: Global, hand: u32, hands: usize) -> Result<Answer, Memory>
-    ensures { IfOk result (λ answer. answer_told answer ≡ definition.no_hand hand hands) }
+    ensures { IfOk result (λ answer. answer_said answer ≡ definition.no_hand hand hands) }
 {
     let line = try_format!(in alloc; "no such hand: {hand} of {hands}\n")?;
     Ok(refusal(alloc, Status::NoSuch, line))
@@ -161,7 +161,7 @@ pub fn no_hand(alloc: Global, hand: u32, hands: usize) -> Result<Answer, Memory>
 
 /// The answer to an input that is too long.
 pub fn input_too_long(alloc: Global) -> Result<Answer, Memory>
-    ensures { IfOk result (λ answer. answer_told answer ≡ definition.to_excess) }
+    ensures { IfOk result (λ answer. answer_said answer ≡ definition.to_excess) }
 {
     let line = excess_line(alloc, "input bytes", MOST_INPUT)?;
     Ok(refusal(alloc, Status::Limit, line))
@@ -169,14 +169,14 @@ pub fn input_too_long(alloc: Global) -> Result<Answer, Memory>
 
 /// A successful answer with a text as its output.
 pub fn done_with(alloc: Global, text: String) -> Answer
-    ensures { answer_told result ≡ definition.done (string_bytes text) }
+    ensures { answer_said result ≡ definition.done (string_bytes text) }
 {
     done(alloc, text.into_bytes())
 }
 
 /// A successful answer with these bytes as its output.
 pub fn done(alloc: Global, output: Vec<u8>) -> Answer
-    ensures { answer_told result ≡ definition.done output.items }
+    ensures { answer_said result ≡ definition.done output.items }
 {
     Answer {
         status: Status::Done,
@@ -187,7 +187,7 @@ pub fn done(alloc: Global, output: Vec<u8>) -> Answer
 
 /// An answer without output: a status and its diagnostic line.
 pub fn refusal(alloc: Global, status: Status, line: String) -> Answer
-    ensures { answer_told result ≡ definition.refusal status (string_bytes line) }
+    ensures { answer_said result ≡ definition.refusal status (string_bytes line) }
 {
     Answer {
         status,

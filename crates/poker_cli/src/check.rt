@@ -4,13 +4,13 @@ ghost use Rattle.convert_core.specs.Formats.{HaveFault, SayRecords};
 ghost use Rattle.convert_core.specs.Judged.{IsPlaysFaultOf};
 ghost use Rattle.poker_cli.specs.AnswerParts.{IsAnswerTo, done};
 ghost use Rattle.poker_cli.specs.Texts.{IsTextOf};
-ghost use Rattle.poker_cli.specs.Told.{answer_told};
+ghost use Rattle.poker_cli.specs.FaultAnswers.{answer_said};
 ghost use Rattle.printed_hands.specs.Check.{check_line, check_said, each_hand};
 
 use crate::answer::{Answer, answer_to_fault, answer_with_text};
 use crate::hand_visitor::{HandVisitor, take_plays};
 use card_set::Memory;
-use convert_core::{Format, HandPlace, JudgedPlay, PlaysFault, SoundRecords, read_records};
+use convert_core::{Format, HandIndex, JudgedPlay, PlaysFault, SoundRecords, read_records};
 use printed_hands::{push_check_end, push_check_line};
 use std::alloc::Global;
 
@@ -26,7 +26,7 @@ impl HandVisitor for CheckLines {
     fn take_play(
         &mut self,
         _: Global,
-        place: HandPlace,
+        place: HandIndex,
         judged: &JudgedPlay<'_>,
     ) -> Result<(), Memory> {
         let number = place.index as u64 + 1;
@@ -37,8 +37,8 @@ impl HandVisitor for CheckLines {
 /// The answer with a line for each hand in the bytes, and the last line.
 pub fn answer_with_check(alloc: Global, from: &Format, bytes: &[u8]) -> Result<Answer, Memory>
     ensures { IfOk result (λ answer. IsAnswerTo (SayRecords from.now bytes.now)
-        (HaveFault from.now bytes.now) (λ plays told. told ≡ done (check_said plays))
-        (answer_told answer)) }
+        (HaveFault from.now bytes.now) (λ plays shown. shown ≡ done (check_said plays))
+        (answer_said answer)) }
 {
     match read_records(alloc, from, bytes) {
         Ok(records) => answer_with_text(alloc, check_text(alloc, records)),

@@ -5,7 +5,7 @@ ghost use Rattle.hand_canon.specs.Sound.{IsSound};
 ghost use Rattle.poker_cli.specs.Compare as definition;
 ghost use Rattle.poker_cli.specs.AnswerParts.{most_input};
 ghost use Rattle.poker_cli.specs.Compare.{IsComparedWith, IsComparison, compared, first_different as first_different_said, hand_difference_said, in_file as in_file_said, to_different as to_different_said, to_other_count as to_other_count_said, to_same as to_same_said};
-ghost use Rattle.poker_cli.specs.Told.{answer_told};
+ghost use Rattle.poker_cli.specs.FaultAnswers.{answer_said};
 
 use crate::answer::{Answer, answer_to_fault, done_with, refusal};
 use crate::status::Status;
@@ -74,7 +74,7 @@ pub fn answer_to_comparison(
     bytes: &[u8],
 ) -> Result<Answer, Memory>
     requires { length bytes.now ≤ most_input }
-    ensures { IfOk result (λ answer. IsComparison by.now file.now bytes.now (answer_told answer)) }
+    ensures { IfOk result (λ answer. IsComparison by.now file.now bytes.now (answer_said answer)) }
 {
     match plays_in(alloc, &by.from, bytes) {
         Ok(plays) => answer_beside(alloc, by, file, &plays),
@@ -91,7 +91,7 @@ fn answer_beside(
 ) -> Result<Answer, Memory>
     requires sound { All IsSound plays.now }
     ensures { IfOk result (λ answer.
-        IsComparedWith by.now.other by.now.notes file.now plays.now (answer_told answer)) }
+        IsComparedWith by.now.other by.now.notes file.now plays.now (answer_said answer)) }
 {
     match plays_in(alloc, &by.other, file) {
         Ok(others) => answer_to_both(alloc, by.notes, plays, &others),
@@ -104,7 +104,7 @@ fn answer_beside(
 
 // An answer that reports a fault inside the other file.
 fn in_file(alloc: Global, answer: Answer) -> Result<Answer, Memory>
-    ensures { IfOk result (λ named. answer_told named ≡ in_file_said (answer_told answer)) }
+    ensures { IfOk result (λ named. answer_said named ≡ in_file_said (answer_said answer)) }
 {
     let Answer {
         status,
@@ -129,7 +129,7 @@ fn answer_to_both(
 ) -> Result<Answer, Memory>
     requires sound { All IsSound plays.now }
     requires others_sound { All IsSound others.now }
-    ensures { IfOk result (λ answer. answer_told answer ≡ compared notes plays.now others.now) }
+    ensures { IfOk result (λ answer. answer_said answer ≡ compared notes plays.now others.now) }
 {
     match first_different(notes, plays, others) {
         Some(differs) => to_different(alloc, differs),
@@ -157,7 +157,7 @@ fn first_different(notes: bool, plays: &[Play], others: &[Play]) -> Option<HandD
 
 // The answer if all hands are the same; `hands` is their number.
 fn to_same(alloc: Global, hands: usize) -> Result<Answer, Memory>
-    ensures { IfOk result (λ answer. answer_told answer ≡ to_same_said hands) }
+    ensures { IfOk result (λ answer. answer_said answer ≡ to_same_said hands) }
 {
     let text = try_format!(in alloc; "same hands: {hands}\n")?;
     Ok(done_with(alloc, text))
@@ -166,7 +166,7 @@ fn to_same(alloc: Global, hands: usize) -> Result<Answer, Memory>
 // The answer if a hand differs.
 fn to_different(alloc: Global, differs: HandDifference) -> Result<Answer, Memory>
     ensures { IfOk result (λ answer.
-        answer_told answer ≡ to_different_said (hand_difference_said differs)) }
+        answer_said answer ≡ to_different_said (hand_difference_said differs)) }
 {
     let number = differs.number;
     let text = difference_text(alloc, differs.difference)?;
@@ -177,7 +177,7 @@ fn to_different(alloc: Global, differs: HandDifference) -> Result<Answer, Memory
 
 // The answer if the files have different numbers of hands.
 fn to_other_count(alloc: Global, hands: usize, others: usize) -> Result<Answer, Memory>
-    ensures { IfOk result (λ answer. answer_told answer ≡ to_other_count_said hands others) }
+    ensures { IfOk result (λ answer. answer_said answer ≡ to_other_count_said hands others) }
 {
     let line = try_format!(in alloc; "differs: hands {hands} and {others}\n")?;
     Ok(refusal(alloc, Status::Differs, line))

@@ -9,8 +9,8 @@ ghost use Rattle.poker_cli.specs.AnswerParts.{most_input};
 ghost use Rattle.poker_cli.specs.Compare.{IsComparedIn, IsComparedTo, IsComparison, IsComparisonOf};
 ghost use Rattle.poker_cli.specs.ComparedFiles.{AreOfLogs, AsksForGame, HasNoFile, HasNoGameFor};
 ghost use Rattle.poker_cli.specs.Replied.{ComesFirst, HasNoAnswer, Keeps};
-ghost use Rattle.poker_cli.specs.Run.{Asks, IsNotThere, LacksFile, OfBytes, OfFile, OfGameFile, WhereTold};
-ghost use Rattle.poker_cli.specs.Told.{answer_told};
+ghost use Rattle.poker_cli.specs.Run.{Asks, IsNotThere, LacksFile, OfBytes, OfFile, OfGameFile, WhereShown};
+ghost use Rattle.poker_cli.specs.FaultAnswers.{answer_said};
 
 use crate::answer::{self, Answer, MOST_INPUT, refusal};
 use crate::compare::{Comparison, answer_to_comparison, comparison_under, plain_comparison};
@@ -46,9 +46,9 @@ pub fn reply_to_comparison<S: Source, H: Shelf>(
     shelf: &mut H,
 ) -> Result<Answer, NoAnswerError>
     ensures answer { IfOk result (λ answer.
-        WhereTold (Compare (sides_in sides.entry) name.now notes)
+        WhereShown (Compare (sides_in sides.entry) name.now notes)
         (S.left input.old) (H.files shelf.old) (λ files bytes.
-        IsComparedIn files (sides_in sides.entry) notes bytes (answer_told answer))) }
+        IsComparedIn files (sides_in sides.entry) notes bytes (answer_said answer))) }
     ensures none { IfErr result (λ why.
         HasNoAnswer (Compare (sides_in sides.entry) name.now notes)
         (S.left input.old) (H.files shelf.old) why) }
@@ -107,7 +107,7 @@ fn reply_beside<S: Source, H: Shelf>(
 ) -> Result<Answer, NoAnswerError>
     ensures answer { IfOk result (λ answer. OfFile (H.files shelf.old) name.now (λ file.
         OfBytes (S.left input.old) (λ bytes.
-        IsComparedTo by.now file bytes (answer_told answer)))) }
+        IsComparedTo by.now file bytes (answer_said answer)))) }
     ensures kept { Keeps input.old input.new (S.faults input.old, S.faults input.new)
         (H.faults shelf.old, H.faults shelf.new) result }
     ensures there { IsErrOf result NoAnswerError.ReadFault →
@@ -149,7 +149,7 @@ fn fetch_file<H: Shelf>(alloc: Global, shelf: &mut H, name: &str) -> Result<Vec<
 
 // The answer if the other file is too long.
 fn answer_to_long_file(alloc: Global) -> Result<Answer, Memory>
-    ensures { IfOk result (λ answer. answer_told answer ≡ definition.to_file_excess) }
+    ensures { IfOk result (λ answer. answer_said answer ≡ definition.to_file_excess) }
 {
     let line = excess_line(alloc, "file bytes", MOST_INPUT)?;
     Ok(refusal(alloc, Status::Limit, line))
@@ -163,7 +163,7 @@ fn reply_to_both<S: Source>(
     input: &mut S,
 ) -> Result<Answer, NoAnswerError>
     ensures answer { IfOk result (λ answer. OfBytes (S.left input.old) (λ bytes.
-        IsComparison by.now file.now bytes (answer_told answer))) }
+        IsComparison by.now file.now bytes (answer_said answer))) }
     ensures read_fault { IsErrOf result NoAnswerError.ReadFault
         → Rose (S.faults input.old) (S.faults input.new) }
     ensures read_alone { IfErr result (λ why. ComesFirst why → ⊥) }

@@ -3,7 +3,7 @@ ghost use Rattle.std.specs.Prelude.{IfOk};
 ghost use Rattle.convert_core.specs.Formats.{HaveFault, SayRecords};
 ghost use Rattle.poker_cli.specs.AnswerParts.{IsAnswerTo};
 ghost use Rattle.poker_cli.specs.Convert.{IsConversion};
-ghost use Rattle.poker_cli.specs.Told.{answer_told};
+ghost use Rattle.poker_cli.specs.FaultAnswers.{answer_said};
 
 use crate::answer::{Answer, answer_to_fault, done};
 use card_set::Memory;
@@ -20,7 +20,7 @@ pub fn answer_with_hands(
     bytes: &[u8],
 ) -> Result<Answer, Memory>
     ensures { IfOk result (λ answer. IsAnswerTo (SayRecords from.now bytes.now)
-        (HaveFault from.now bytes.now) (IsConversion to.now keep) (answer_told answer)) }
+        (HaveFault from.now bytes.now) (IsConversion to.now keep) (answer_said answer)) }
 {
     match convert(alloc, from, to, keep, bytes) {
         Ok(output) => Ok(done(alloc, output)),

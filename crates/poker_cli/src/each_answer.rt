@@ -2,7 +2,7 @@
 ghost use Rattle.std.specs.Prelude.{IfOk};
 ghost use Rattle.convert_core.specs.Formats.{HaveFault, SayRecords};
 ghost use Rattle.poker_cli.specs.Each.{AreReplayedEach, IsAnswerOfEach, IsReplyOfEach};
-ghost use Rattle.poker_cli.specs.Told.{answer_told};
+ghost use Rattle.poker_cli.specs.FaultAnswers.{answer_said};
 
 use crate::answer::{Answer, answer_to_fault, done_with};
 use crate::each_options::{answer_with_point, answer_with_points};
@@ -21,7 +21,7 @@ pub fn answer_with_each(
     bytes: &[u8],
 ) -> Result<Answer, Memory>
     ensures { IfOk result (λ answer. IsAnswerOfEach (SayRecords from.now bytes.now)
-        (HaveFault from.now bytes.now) question (answer_told answer)) }
+        (HaveFault from.now bytes.now) question (answer_said answer)) }
 {
     match read_records(alloc, from, bytes) {
         Ok(records) => answer_to_each(alloc, question, &records),
@@ -35,7 +35,7 @@ fn answer_to_each(
     question: EachQuestion,
     records: &SoundRecords,
 ) -> Result<Answer, Memory>
-    ensures { IfOk result (λ answer. IsReplyOfEach question records.now (answer_told answer)) }
+    ensures { IfOk result (λ answer. IsReplyOfEach question records.now (answer_said answer)) }
 {
     match question {
         EachQuestion::Replay => answer_with_replay(alloc, records),
@@ -46,7 +46,7 @@ fn answer_to_each(
 
 // The answer with these hands step by step.
 fn answer_with_replay(alloc: Global, records: &SoundRecords) -> Result<Answer, Memory>
-    ensures { IfOk result (λ answer. AreReplayedEach records.now (answer_told answer)) }
+    ensures { IfOk result (λ answer. AreReplayedEach records.now (answer_said answer)) }
 {
     let text = replay_each(alloc, records)?;
     Ok(done_with(alloc, text))

@@ -2,7 +2,7 @@
 //! whatever the other hands are.
 ghost use Rattle.std.specs.Prelude.{IfOk, string_bytes};
 ghost use Rattle.poker_cli.specs.Each.{IsEveryPoint, IsPoint, IsTextOfPoints};
-ghost use Rattle.poker_cli.specs.Told.{answer_told};
+ghost use Rattle.poker_cli.specs.FaultAnswers.{answer_said};
 
 use crate::answer::{Answer, done, done_with, no_hand};
 use crate::each_verdict::{outcome_of, push_refusal_line, verdict_on};
@@ -20,7 +20,7 @@ pub fn answer_with_points(
     hand: u32,
     records: &SoundRecords,
 ) -> Result<Answer, Memory>
-    ensures { IfOk result (λ answer. IsEveryPoint hand records.now (answer_told answer)) }
+    ensures { IfOk result (λ answer. IsEveryPoint hand records.now (answer_said answer)) }
 {
     let place = (hand as usize).saturating_sub(1);
     let count = records.len();
@@ -55,7 +55,7 @@ pub fn answer_with_point(
     events: u32,
     records: &SoundRecords,
 ) -> Result<Answer, Memory>
-    ensures { IfOk result (λ answer. IsPoint hand events records.now (answer_told answer)) }
+    ensures { IfOk result (λ answer. IsPoint hand events records.now (answer_said answer)) }
 {
     let place = (hand as usize).saturating_sub(1);
     let count = records.len();

@@ -8,8 +8,8 @@ ghost use Rattle.host_io.specs.Faults.{Rose};
 ghost use Rattle.poker_cli.specs.Answer.{IsAnswerBy, IsAnswerIn, IsAnswerUnder};
 ghost use Rattle.poker_cli.specs.Headline.{EndsOver};
 ghost use Rattle.poker_cli.specs.Replied.{ComesFirst, HasNoAnswer, Keeps};
-ghost use Rattle.poker_cli.specs.Run.{Asks, AsksInTurn, EndsLeaving, GivesNone, IsOwn, LacksFile, Leaves, MakesHands, MayEnd, OfBytes, OfFile, Tells, TellsLine, WhereTold, Writes, WritesNothing, change_of, line_of};
-ghost use Rattle.poker_cli.specs.Told.{answer_told};
+ghost use Rattle.poker_cli.specs.Run.{Asks, AsksInTurn, EndsLeaving, GivesNone, IsOwn, LacksFile, Leaves, MakesHands, MayEnd, OfBytes, OfFile, PrintsLine, Reports, WhereShown, Writes, WritesNothing, change_of, line_of};
+ghost use Rattle.poker_cli.specs.FaultAnswers.{answer_said};
 
 use crate::answer::{self, Answer, MOST_INPUT};
 use crate::compared_files::reply_to_comparison;
@@ -53,14 +53,14 @@ pub fn run<S: Source, H: Shelf, K: Sink, D: Sink>(
     // that does not show its files as one that has some files. If there is nothing to write, the
     // output stays as it was.
     ensures ends { IfSome (request_said (map string_bytes words.now)) (λ request.
-        WhereTold request (S.left input.old) (H.files shelf.old) (λ files bytes.
+        WhereShown request (S.left input.old) (H.files shelf.old) (λ files bytes.
         EndsOver request files bytes
         (change_of K.held K.faults out.old out.new)
         (change_of D.held D.faults diag.old diag.new) result (out.new ≡ out.old))) }
 
     // A device fault is reported only if its count rose, and the line of a fault does not depend on
     // the input. Nothing is written before all is done.
-    ensures tells { Tells result (S.faults input.old, S.faults input.new)
+    ensures tells { Reports result (S.faults input.old, S.faults input.new)
         (H.faults shelf.old, H.faults shelf.new)
         (change_of K.held K.faults out.old out.new)
         (change_of D.held D.faults diag.old diag.new) }
@@ -98,12 +98,12 @@ fn run_request<S: Source, H: Shelf, K: Sink, D: Sink>(
 ) -> Status
     ensures memory { result ≡ Status.Memory → WasRefused }
     ensures answered { result ≡ Status.Usage → ⊥ }
-    ensures ends { WhereTold (request_in request.entry) (S.left input.old) (H.files shelf.old)
+    ensures ends { WhereShown (request_in request.entry) (S.left input.old) (H.files shelf.old)
         (λ files bytes.
         EndsLeaving (request_in request.entry) files bytes
         (change_of K.held K.faults out.old out.new)
         (change_of D.held D.faults diag.old diag.new) result (out.new ≡ out.old)) }
-    ensures tells { Tells result (S.faults input.old, S.faults input.new)
+    ensures tells { Reports result (S.faults input.old, S.faults input.new)
         (H.faults shelf.old, H.faults shelf.new)
         (change_of K.held K.faults out.old out.new)
         (change_of D.held D.faults diag.old diag.new) }
@@ -147,8 +147,8 @@ fn reply<S: Source, H: Shelf>(
     shelf: &mut H,
 ) -> Result<Answer, NoAnswerError>
     ensures answer { IfOk result (λ answer.
-        WhereTold (request_in request.entry) (S.left input.old) (H.files shelf.old) (λ files bytes.
-        IsAnswerIn (request_in request.entry) files bytes (answer_told answer))) }
+        WhereShown (request_in request.entry) (S.left input.old) (H.files shelf.old) (λ files bytes.
+        IsAnswerIn (request_in request.entry) files bytes (answer_said answer))) }
     ensures none { IfErr result (λ why.
         HasNoAnswer (request_in request.entry) (S.left input.old) (H.files shelf.old) why) }
     ensures kept { Keeps input.old input.new (S.faults input.old, S.faults input.new)
@@ -178,7 +178,7 @@ fn reply_under<S: Source, H: Shelf>(
 ) -> Result<Answer, NoAnswerError>
     ensures answer { IfOk result (λ answer. OfFile (H.files shelf.old) name.now (λ file.
         OfBytes (S.left input.old) (λ bytes.
-        IsAnswerUnder file logs bytes (answer_told answer)))) }
+        IsAnswerUnder file logs bytes (answer_said answer)))) }
     ensures none { IfErr result (λ why.
         HasNoAnswer (Under name.now logs) (S.left input.old) (H.files shelf.old) why) }
     ensures kept { Keeps input.old input.new (S.faults input.old, S.faults input.new)
@@ -199,7 +199,7 @@ fn reply_under<S: Source, H: Shelf>(
 // The answer to all that the source has left, read and handled as `way` says.
 fn reply_with<S: Source>(alloc: Global, way: Job, input: &mut S) -> Result<Answer, NoAnswerError>
     ensures answer { IfOk result (λ answer. OfBytes (S.left input.old) (λ bytes.
-        IsAnswerBy way bytes (answer_told answer))) }
+        IsAnswerBy way bytes (answer_said answer))) }
     ensures read_fault { IsErrOf result NoAnswerError.ReadFault
         → Rose (S.faults input.old) (S.faults input.new) }
     ensures read_alone { IfErr result (λ why. ComesFirst why → ⊥) }
@@ -217,15 +217,15 @@ fn deliver<K: Sink, D: Sink>(answer: &Answer, out: &mut K, diag: &mut D) -> Stat
     requires { IsOwn answer.now.status }
     ensures read { result ≡ Status.ReadFault → ⊥ }
     ensures memory { result ≡ Status.Memory → ⊥ }
-    ensures status { MayEnd (answer_told answer.now) result }
+    ensures status { MayEnd (answer_said answer.now) result }
     ensures write_fault { result ≡ Status.WriteFault → Rose (K.faults out.old) (K.faults out.new) }
-    ensures written { Writes (K.held out.old) (K.held out.new) (answer_told answer.now) result }
+    ensures written { Writes (K.held out.old) (K.held out.new) (answer_said answer.now) result }
     ensures nothing_written { WritesNothing result → out.new ≡ out.old }
-    ensures no_output { result ≡ Status.Done → (answer_told answer.now).output ≡ []
+    ensures no_output { result ≡ Status.Done → (answer_said answer.now).output ≡ []
         → out.new ≡ out.old }
-    ensures line { TellsLine
+    ensures line { PrintsLine
         (D.faults diag.old) (D.faults diag.new) (D.held diag.old) (D.held diag.new)
-        (line_of (answer_told answer.now) result) }
+        (line_of (answer_said answer.now) result) }
     ensures quiet { result ≡ Status.Done → diag.new ≡ diag.old }
 {
     match answer.status {
@@ -245,7 +245,7 @@ fn deliver<K: Sink, D: Sink>(answer: &Answer, out: &mut K, diag: &mut D) -> Stat
 
 /// Prints a line, as far as the sink takes it.
 pub fn print_line<D: Sink>(diag: &mut D, line: &[u8])
-    ensures { TellsLine
+    ensures { PrintsLine
         (D.faults diag.old) (D.faults diag.new) (D.held diag.old) (D.held diag.new) line.now }
 {
     match write_all(diag, line) {

@@ -5,7 +5,7 @@ ghost use Rattle.hand_canon.specs.Sound.{IsSound};
 ghost use Rattle.poker_cli.specs.Equity as in_equity;
 ghost use Rattle.poker_cli.specs.Equity.{IsEquityAt};
 ghost use Rattle.poker_cli.specs.AnswerParts.{IsAnswerTo};
-ghost use Rattle.poker_cli.specs.Told.{answer_told};
+ghost use Rattle.poker_cli.specs.FaultAnswers.{answer_said};
 
 use crate::answer::{Answer, answer_to_fault, done, no_hand, refusal};
 use crate::status::Status;
@@ -24,7 +24,7 @@ pub fn answer_with_equity(
     bytes: &[u8],
 ) -> Result<Answer, Memory>
     ensures { IfOk result (λ answer. IsAnswerTo (SayRecords from.now bytes.now)
-        (HaveFault from.now bytes.now) (IsEquityAt hand street) (answer_told answer)) }
+        (HaveFault from.now bytes.now) (IsEquityAt hand street) (answer_said answer)) }
 {
     match plays(alloc, from, bytes) {
         Ok(plays) => equity_in_plays(alloc, &plays, hand, street),
@@ -35,7 +35,7 @@ pub fn answer_with_equity(
 // The same, from the plays of all hands.
 fn equity_in_plays(alloc: Global, plays: &[Play], hand: u32, street: u8) -> Result<Answer, Memory>
     requires sound { All IsSound plays.now }
-    ensures { IfOk result (λ answer. IsEquityAt hand street plays.now (answer_told answer)) }
+    ensures { IfOk result (λ answer. IsEquityAt hand street plays.now (answer_said answer)) }
 {
     let Some(play) = plays.get((hand as usize).saturating_sub(1)) else {
         return no_hand(alloc, hand, plays.len());
@@ -52,7 +52,7 @@ fn equity_in_plays(alloc: Global, plays: &[Play], hand: u32, street: u8) -> Resu
 
 // No board is dealt on this street of the hand.
 fn no_street(alloc: Global, hand: u32, street: u8) -> Result<Answer, Memory>
-    ensures { IfOk result (λ answer. answer_told answer ≡ in_equity.no_street hand street) }
+    ensures { IfOk result (λ answer. answer_said answer ≡ in_equity.no_street hand street) }
 {
     let line = try_format!(in alloc; "no such street: hand {hand}: {street}\n")?;
     Ok(refusal(alloc, Status::NoSuch, line))
@@ -60,7 +60,7 @@ fn no_street(alloc: Global, hand: u32, street: u8) -> Result<Answer, Memory>
 
 // A card of this seat stayed unknown in the hand.
 fn no_cards(alloc: Global, hand: u32, seat: u8) -> Result<Answer, Memory>
-    ensures { IfOk result (λ answer. answer_told answer ≡ in_equity.no_cards hand seat) }
+    ensures { IfOk result (λ answer. answer_said answer ≡ in_equity.no_cards hand seat) }
 {
     let line = try_format!(in alloc; "no such cards: hand {hand}: p{seat}\n")?;
     Ok(refusal(alloc, Status::NoSuch, line))

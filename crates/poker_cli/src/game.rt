@@ -4,7 +4,7 @@ ghost use Rattle.convert_core.specs.Formats.{HaveFault, SayRecords};
 ghost use Rattle.hand_canon.specs.Sound.{IsSound};
 ghost use Rattle.poker_cli.specs.AnswerParts.{IsAnswerTo};
 ghost use Rattle.poker_cli.specs.Game.{IsGameReply};
-ghost use Rattle.poker_cli.specs.Told.{answer_told};
+ghost use Rattle.poker_cli.specs.FaultAnswers.{answer_said};
 
 use crate::answer::{Answer, answer_to_fault, answer_to_unspelled, done};
 use acpc_game::write_game;
@@ -17,7 +17,7 @@ use std::alloc::Global;
 /// The answer with the game file of the first hand in the bytes.
 pub fn answer_with_game(alloc: Global, from: &Format, bytes: &[u8]) -> Result<Answer, Memory>
     ensures { IfOk result (λ answer. IsAnswerTo (SayRecords from.now bytes.now)
-        (HaveFault from.now bytes.now) IsGameReply (answer_told answer)) }
+        (HaveFault from.now bytes.now) IsGameReply (answer_said answer)) }
 {
     match plays(alloc, from, bytes) {
         Ok(plays) => answer_with_first_game(alloc, &plays),
@@ -28,7 +28,7 @@ pub fn answer_with_game(alloc: Global, from: &Format, bytes: &[u8]) -> Result<An
 // The answer with the game file of the first play.
 fn answer_with_first_game(alloc: Global, plays: &[Play]) -> Result<Answer, Memory>
     requires sound { All IsSound plays.now }
-    ensures { IfOk result (λ answer. IsGameReply plays.now (answer_told answer)) }
+    ensures { IfOk result (λ answer. IsGameReply plays.now (answer_said answer)) }
 {
     let [play, ..] = plays else {
         return Ok(done(alloc, Vec::new(alloc)));

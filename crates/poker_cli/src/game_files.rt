@@ -3,10 +3,10 @@ ghost use Rattle.std.specs.Prelude.{◌≡◌, ◌≤◌, List, ℕ, Option, IfE
 ghost use Rattle.host_io.specs.Faults.{Rose};
 ghost use Rattle.host_io.specs.Shelf.{IsAnswer};
 ghost use Rattle.poker_cli.specs.AnswerParts.{most_input};
-ghost use Rattle.poker_cli.specs.GameFiles.{GivesGame, HasNoGame, IsGameFileErrorTold};
+ghost use Rattle.poker_cli.specs.GameFiles.{GivesGame, HasNoGame, IsGameFileErrorAnswer};
 ghost use Rattle.poker_cli.specs.AcpcFaults.{bad_game_line as bad_game_line_said};
 ghost use Rattle.poker_cli.specs.Run.{OfFile};
-ghost use Rattle.poker_cli.specs.Told.{answer_told};
+ghost use Rattle.poker_cli.specs.FaultAnswers.{answer_said};
 
 use crate::answer::{Answer, MOST_INPUT, refusal};
 use crate::limits::excess_line;
@@ -73,7 +73,7 @@ fn game_fetched(alloc: Global, fetched: &Fetched) -> Result<Game, NoGameError>
 
 /// The answer if this is wrong with the game file.
 pub fn game_file_answer(alloc: Global, lack: GameFileError) -> Result<Answer, Memory>
-    ensures { IfOk result (λ answer. IsGameFileErrorTold lack (answer_told answer)) }
+    ensures { IfOk result (λ answer. IsGameFileErrorAnswer lack (answer_said answer)) }
 {
     match lack {
         GameFileError::TooLong => {

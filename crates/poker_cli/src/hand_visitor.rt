@@ -7,7 +7,7 @@ ghost use Rattle.poker_cli.specs.Played.{HasTakenPlays, HaveTaken};
 
 use card_set::Memory;
 use convert_core::{
-    HandPlace, JudgedPlay, PlaysFault, Refusal, SoundRecords, VerdictVisitor, judge_all,
+    HandIndex, JudgedPlay, PlaysFault, Refusal, SoundRecords, VerdictVisitor, judge_all
 };
 use std::alloc::Global;
 
@@ -24,7 +24,7 @@ pub trait HandVisitor {
     fn take_play(
         &mut self,
         alloc: Global,
-        place: HandPlace,
+        place: HandIndex,
         play: &JudgedPlay<'_>,
     ) -> Result<(), Memory>
         requires { (start : Self) × HasTakenPlays (TookPlays start self.old) place.index }
@@ -58,7 +58,7 @@ impl<T: HandVisitor + Drop> VerdictVisitor for LegalPlays<T> {
     fn take(
         &mut self,
         alloc: Global,
-        place: HandPlace,
+        place: HandIndex,
         play: &JudgedPlay<'_>,
     ) -> Result<(), Memory> {
         match self.visitor.take_play(alloc, place, play) {
@@ -67,7 +67,7 @@ impl<T: HandVisitor + Drop> VerdictVisitor for LegalPlays<T> {
         }
     }
 
-    fn pass(&mut self, _: Global, _: HandPlace, _: &Refusal) -> Result<(), Memory> {
+    fn pass(&mut self, _: Global, _: HandIndex, _: &Refusal) -> Result<(), Memory> {
         Ok(())
     }
 }

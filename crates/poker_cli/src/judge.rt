@@ -2,16 +2,15 @@
 //! begins if that is asked for; and then a line with the number of legal hands.
 ghost use Rattle.std.specs.Prelude.{IfOk, OnOk, Some, codes, false, slice_get, string_bytes, true, ◌++◌, ◌≡◌};
 ghost use Rattle.std.specs.Fmt.{decimal};
-ghost use Rattle.poker_cli.specs.Judge.{ArePrinted, IsJudged, IsJudgement, begins_text, if_asked, judged_end};
+ghost use Rattle.poker_cli.specs.Judge.{ArePrinted, IsJudgement, IsVerdictsText, begins_text, if_asked, verdicts_end};
 ghost use Rattle.convert_core.specs.FaultText.{refusal_text};
 ghost use Rattle.convert_core.specs.Formats.{HaveFault, SayRecords, first_lines};
-ghost use Rattle.poker_cli.specs.Told.{answer_told};
+ghost use Rattle.poker_cli.specs.FaultAnswers.{answer_said};
 
 use crate::answer::{Answer, answer_to_fault, done_with};
 use card_set::{Memory, TryWrite, try_write};
 use convert_core::{
-    Format, HandPlace, JudgedPlay, Notation, PlaysFault, Refusal, SoundRecords, VerdictVisitor,
-    judge_all, read_records,
+    Format, HandIndex, JudgedPlay, Notation, PlaysFault, Refusal, SoundRecords, VerdictVisitor, judge_all, read_records
 };
 use std::alloc::Global;
 
@@ -40,7 +39,7 @@ impl VerdictVisitor for VerdictLines {
         false
     }
 
-    fn take(&mut self, _: Global, place: HandPlace, _: &JudgedPlay<'_>) -> Result<(), Memory> {
+    fn take(&mut self, _: Global, place: HandIndex, _: &JudgedPlay<'_>) -> Result<(), Memory> {
         let number = place.index + 1;
         let line = line_at(&self.lines, place.index);
         push_legal(&mut self.text, number, line)?;
@@ -48,7 +47,7 @@ impl VerdictVisitor for VerdictLines {
         Ok(())
     }
 
-    fn pass(&mut self, _: Global, place: HandPlace, why: &Refusal) -> Result<(), Memory> {
+    fn pass(&mut self, _: Global, place: HandIndex, why: &Refusal) -> Result<(), Memory> {
         let number = place.index + 1;
         let line = line_at(&self.lines, place.index);
         push_refused(&mut self.text, number, line, why)?;
@@ -70,7 +69,7 @@ fn line_at(lines: &Vec<u64>, place: usize) -> Option<u64>
 ///
 /// Out of memory.
 pub fn judge_text(alloc: Global, lines: Vec<u64>, records: SoundRecords) -> Result<String, Memory>
-    ensures { IfOk result (λ text. IsJudged lines.items records (string_bytes text)) }
+    ensures { IfOk result (λ text. IsVerdictsText lines.items records (string_bytes text)) }
 {
     let hands = records.len();
     let mut lines = VerdictLines {
@@ -123,7 +122,7 @@ pub fn push_refused(
 // Appends the last line.
 fn push_end(text: &mut String, legal: usize, hands: usize) -> Result<(), Memory>
     ensures { OnOk result (string_bytes text.new
-        ≡ string_bytes text.old ++ judged_end legal hands) }
+        ≡ string_bytes text.old ++ verdicts_end legal hands) }
 {
     try_write!(text, "legal hands: {legal} of {hands}\n")?;
     Ok(())
@@ -139,7 +138,7 @@ pub fn answer_with_verdicts(
 ) -> Result<Answer, Memory>
     ensures { IfOk result (λ answer. IsJudgement (SayRecords from.now bytes.now)
         (HaveFault from.now bytes.now) (if_asked asked (first_lines from.now bytes.now))
-        (answer_told answer)) }
+        (answer_said answer)) }
 {
     match read_records(alloc, from, bytes) {
         Ok(records) => {

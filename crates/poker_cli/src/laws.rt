@@ -27,7 +27,7 @@ ghost use Rattle.poker_cli.specs.LegalInputs.{AsksOfHands, AsksOfLegal, FindsNon
 ghost use Rattle.poker_cli.specs.OneAnswer.{AreOneAnswer};
 ghost use Rattle.poker_cli.specs.Views.{AreViews, each_view, most_view_bytes};
 ghost use Rattle.poker_cli.specs.Run.{Ends, NeedsNoInput, RefusesNothing, Sinks};
-ghost use Rattle.poker_cli.specs.RunTells.{told_by};
+ghost use Rattle.poker_cli.specs.RunReports.{report_by};
 ghost use Rattle.poker_cli.specs.Ways.{IsWay, way};
 ghost use Rattle.poker_cli.specs.declared.compare.Comparison.{Comparison};
 ghost use Rattle.poker_cli.specs.declared.status.Status.{Status};
@@ -212,7 +212,7 @@ pub fn law_of_runs_again()
         → ConvertsInto from to keep bytes output
         → (out diag : Sinks) (status : Status)
         → (ends : ConversionEnds to to again output out diag status)
-        → IfSome (told_by to to again output out diag status ends)
+        → IfSome (report_by to to again output out diag status ends)
         (AreSameAnswers (AreSameIn to) (Ok output)) }
 {}
 
@@ -227,8 +227,8 @@ pub fn law_of_runs_by_way()
         → (out diag by_out by_diag : Sinks) (status by_status : Status)
         → (straight : ConversionEnds from to keep bytes out diag status)
         → (by_way : ConversionEnds by to keep output by_out by_diag by_status)
-        → IfSome (told_by from to keep bytes out diag status straight) (λ answer.
-        IfSome (told_by by to keep output by_out by_diag by_status by_way)
+        → IfSome (report_by from to keep bytes out diag status straight) (λ answer.
+        IfSome (report_by by to keep output by_out by_diag by_status by_way)
         (AreSameAnswers (AreSameIn to) answer)) }
 {}
 

@@ -1,7 +1,7 @@
 //! Answers `load`: generates hands and sums them up.
 ghost use Rattle.std.specs.Prelude.{IfOk};
 ghost use Rattle.poker_cli.specs.Load.{IsSummed};
-ghost use Rattle.poker_cli.specs.Told.{answer_told};
+ghost use Rattle.poker_cli.specs.FaultAnswers.{answer_said};
 
 use crate::answer::Answer;
 use crate::status::Status;
@@ -12,7 +12,7 @@ use std::alloc::Global;
 
 /// The answer with the summary of `hands` hands generated from a seed.
 pub fn answer_to_load(alloc: Global, seed: u64, hands: HandCount) -> Result<Answer, Memory>
-    ensures { IfOk result (λ answer. IsSummed seed hands.number (answer_told answer)) }
+    ensures { IfOk result (λ answer. IsSummed seed hands.number (answer_said answer)) }
 {
     let summary = load(alloc, seed, hands.number)?;
     let text = summary_text(alloc, &summary)?;

@@ -5,7 +5,7 @@ ghost use Rattle.hand_canon.specs.Sound.{IsSound};
 ghost use Rattle.poker_cli.specs.Options as in_options;
 ghost use Rattle.poker_cli.specs.Options.{AreOptionsAt};
 ghost use Rattle.poker_cli.specs.AnswerParts.{IsAnswerTo};
-ghost use Rattle.poker_cli.specs.Told.{answer_told};
+ghost use Rattle.poker_cli.specs.FaultAnswers.{answer_said};
 
 use crate::answer::{Answer, answer_to_fault, done, no_hand, refusal};
 use crate::status::Status;
@@ -24,7 +24,7 @@ pub fn answer_with_options(
     bytes: &[u8],
 ) -> Result<Answer, Memory>
     ensures { IfOk result (λ answer. IsAnswerTo (SayRecords from.now bytes.now)
-        (HaveFault from.now bytes.now) (AreOptionsAt hand events) (answer_told answer)) }
+        (HaveFault from.now bytes.now) (AreOptionsAt hand events) (answer_said answer)) }
 {
     match plays(alloc, from, bytes) {
         Ok(plays) => options_in_plays(alloc, &plays, hand, events),
@@ -35,7 +35,7 @@ pub fn answer_with_options(
 // The same, from the plays of all hands.
 fn options_in_plays(alloc: Global, plays: &[Play], hand: u32, events: u32) -> Result<Answer, Memory>
     requires sound { All IsSound plays.now }
-    ensures { IfOk result (λ answer. AreOptionsAt hand events plays.now (answer_told answer)) }
+    ensures { IfOk result (λ answer. AreOptionsAt hand events plays.now (answer_said answer)) }
 {
     let Some(play) = plays.get((hand as usize).saturating_sub(1)) else {
         return no_hand(alloc, hand, plays.len());
@@ -51,7 +51,7 @@ fn options_in_plays(alloc: Global, plays: &[Play], hand: u32, events: u32) -> Re
 
 /// Event number past the end of the hand.
 pub fn no_event(alloc: Global, hand: u32, events: u32, all: usize) -> Result<Answer, Memory>
-    ensures { IfOk result (λ answer. answer_told answer ≡ in_options.no_event hand events all) }
+    ensures { IfOk result (λ answer. answer_said answer ≡ in_options.no_event hand events all) }
 {
     let line = try_format!(in alloc; "no such event: hand {hand}: {events} of {all}\n")?;
     Ok(refusal(alloc, Status::NoSuch, line))

@@ -4,7 +4,7 @@ ghost use Rattle.convert_core.specs.Formats.{HaveFault, SayRecords};
 ghost use Rattle.convert_core.specs.Judged.{IsPlaysFaultOf};
 ghost use Rattle.poker_cli.specs.AnswerParts.{IsAnswerTo, done};
 ghost use Rattle.poker_cli.specs.Texts.{IsTextOf};
-ghost use Rattle.poker_cli.specs.Told.{answer_told};
+ghost use Rattle.poker_cli.specs.FaultAnswers.{answer_said};
 ghost use Rattle.printed_hands.specs.Check.{each_hand};
 ghost use Rattle.printed_hands.specs.Steps.{replay_lines};
 ghost use Rattle.printed_hands.specs.Replay.{replay_said};
@@ -12,7 +12,7 @@ ghost use Rattle.printed_hands.specs.Replay.{replay_said};
 use crate::answer::{Answer, answer_to_fault, answer_with_text};
 use crate::hand_visitor::{HandVisitor, take_plays};
 use card_set::Memory;
-use convert_core::{Format, HandPlace, JudgedPlay, PlaysFault, SoundRecords, read_records};
+use convert_core::{Format, HandIndex, JudgedPlay, PlaysFault, SoundRecords, read_records};
 use printed_hands::push_replay_lines;
 use std::alloc::Global;
 
@@ -28,7 +28,7 @@ impl HandVisitor for ReplayLines {
     fn take_play(
         &mut self,
         alloc: Global,
-        place: HandPlace,
+        place: HandIndex,
         judged: &JudgedPlay<'_>,
     ) -> Result<(), Memory> {
         let number = place.index as u64 + 1;
@@ -39,8 +39,8 @@ impl HandVisitor for ReplayLines {
 /// The answer with the hands in the bytes step by step.
 pub fn answer_with_replay(alloc: Global, from: &Format, bytes: &[u8]) -> Result<Answer, Memory>
     ensures { IfOk result (λ answer. IsAnswerTo (SayRecords from.now bytes.now)
-        (HaveFault from.now bytes.now) (λ plays told. told ≡ done (replay_said plays))
-        (answer_told answer)) }
+        (HaveFault from.now bytes.now) (λ plays shown. shown ≡ done (replay_said plays))
+        (answer_said answer)) }
 {
     match read_records(alloc, from, bytes) {
         Ok(records) => answer_with_text(alloc, replay_text(alloc, records)),

@@ -4,14 +4,14 @@ ghost use Rattle.convert_core.specs.Formats.{HaveFault, SayRecords};
 ghost use Rattle.convert_core.specs.Judged.{IsPlaysFaultOf};
 ghost use Rattle.poker_cli.specs.AnswerParts.{IsAnswerTo, done};
 ghost use Rattle.poker_cli.specs.Texts.{IsTextOf};
-ghost use Rattle.poker_cli.specs.Told.{answer_told};
+ghost use Rattle.poker_cli.specs.FaultAnswers.{answer_said};
 ghost use Rattle.printed_report.specs.SoFar.{IsReportSoFar};
 ghost use Rattle.printed_report.specs.Report.{report_said};
 
 use crate::answer::{Answer, answer_to_fault, answer_with_text};
 use crate::hand_visitor::{HandVisitor, take_plays};
 use card_set::Memory;
-use convert_core::{Format, HandPlace, JudgedPlay, PlaysFault, SoundRecords, read_records};
+use convert_core::{Format, HandIndex, JudgedPlay, PlaysFault, SoundRecords, read_records};
 use printed_report::OpenReport;
 use std::alloc::Global;
 
@@ -21,7 +21,7 @@ impl HandVisitor for OpenReport {
     fn take_play(
         &mut self,
         alloc: Global,
-        _: HandPlace,
+        _: HandIndex,
         judged: &JudgedPlay<'_>,
     ) -> Result<(), Memory> {
         self.add_play(alloc, judged.play())
@@ -31,8 +31,8 @@ impl HandVisitor for OpenReport {
 /// The answer with the report on the hands in the bytes.
 pub fn answer_with_report(alloc: Global, from: &Format, bytes: &[u8]) -> Result<Answer, Memory>
     ensures { IfOk result (λ answer. IsAnswerTo (SayRecords from.now bytes.now)
-        (HaveFault from.now bytes.now) (λ plays told. told ≡ done (report_said plays))
-        (answer_told answer)) }
+        (HaveFault from.now bytes.now) (λ plays shown. shown ≡ done (report_said plays))
+        (answer_said answer)) }
 {
     match read_records(alloc, from, bytes) {
         Ok(records) => answer_with_text(alloc, report_of(alloc, records)),

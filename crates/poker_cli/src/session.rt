@@ -5,14 +5,14 @@ ghost use Rattle.convert_core.specs.Judged.{IsPlaysFaultOf};
 ghost use Rattle.hand_session.specs.SoFar.{IsSessionSoFar};
 ghost use Rattle.poker_cli.specs.AnswerParts.{IsAnswerTo, done};
 ghost use Rattle.poker_cli.specs.Texts.{IsTextOf};
-ghost use Rattle.poker_cli.specs.Told.{answer_told};
+ghost use Rattle.poker_cli.specs.FaultAnswers.{answer_said};
 ghost use Rattle.hand_session.specs.Printed.{session_printed};
 ghost use Rattle.hand_session.specs.Sessions.{session_said};
 
 use crate::answer::{Answer, answer_to_fault, answer_with_text};
 use crate::hand_visitor::{HandVisitor, take_plays};
 use card_set::Memory;
-use convert_core::{Format, HandPlace, JudgedPlay, PlaysFault, SoundRecords, read_records};
+use convert_core::{Format, HandIndex, JudgedPlay, PlaysFault, SoundRecords, read_records};
 use hand_session::{OpenSession, session_text};
 use std::alloc::Global;
 
@@ -22,7 +22,7 @@ impl HandVisitor for OpenSession {
     fn take_play(
         &mut self,
         alloc: Global,
-        _: HandPlace,
+        _: HandIndex,
         judged: &JudgedPlay<'_>,
     ) -> Result<(), Memory> {
         self.add_play(alloc, judged.play())
@@ -32,9 +32,9 @@ impl HandVisitor for OpenSession {
 /// The answer with the session of the hands in the bytes.
 pub fn answer_with_session(alloc: Global, from: &Format, bytes: &[u8]) -> Result<Answer, Memory>
     ensures { IfOk result (λ answer. IsAnswerTo (SayRecords from.now bytes.now)
-        (HaveFault from.now bytes.now) (λ plays told. told
+        (HaveFault from.now bytes.now) (λ plays shown. shown
         ≡ done (session_printed (session_said plays)))
-        (answer_told answer)) }
+        (answer_said answer)) }
 {
     match read_records(alloc, from, bytes) {
         Ok(records) => answer_with_text(alloc, session_of(alloc, records)),

@@ -7,7 +7,7 @@ ghost use Rattle.convert_core.specs.Judged.{IsPlaysFaultOf};
 ghost use Rattle.hand_records.specs.declared.trace.Play.{Play as AnyPlay};
 ghost use Rattle.poker_cli.specs.AnswerParts.{IsAnswerTo, done as done_said};
 ghost use Rattle.poker_cli.specs.Views.{AreMessages, AreSeen, AreViews, AreViewsOf, most_view_bytes, no_seat as no_seat_said};
-ghost use Rattle.poker_cli.specs.Told.{answer_told};
+ghost use Rattle.poker_cli.specs.FaultAnswers.{answer_said};
 
 use crate::answer::{Answer, answer_to_fault, answer_to_refused, done, refusal};
 use crate::hand_visitor::{HandVisitor, take_plays};
@@ -17,7 +17,7 @@ use acpc_game::Game;
 use acpc_view::{views, views_len};
 use card_set::{Memory, TryExtend, try_format};
 use chip_ledger::Seat;
-use convert_core::{Format, HandPlace, JudgedPlay, PlaysFault, SoundRecords, plays, read_records};
+use convert_core::{Format, HandIndex, JudgedPlay, PlaysFault, SoundRecords, plays, read_records};
 use hand_records::Play;
 use std::alloc::Global;
 
@@ -42,7 +42,7 @@ impl HandVisitor for SeenLines {
     fn take_play(
         &mut self,
         alloc: Global,
-        place: HandPlace,
+        place: HandIndex,
         play: &JudgedPlay<'_>,
     ) -> Result<(), Memory> {
         if !self.kept {
@@ -66,7 +66,7 @@ pub fn answer_with_messages(
     bytes: &[u8],
 ) -> Result<Answer, Memory>
     ensures { IfOk result (λ answer. IsAnswerTo (SayRecords from.now bytes.now)
-        (HaveFault from.now bytes.now) (AreMessages from.now seat) (answer_told answer)) }
+        (HaveFault from.now bytes.now) (AreMessages from.now seat) (answer_said answer)) }
 {
     match from {
         Format::Phh => answer_without_messages(alloc, from, bytes),
@@ -78,7 +78,7 @@ pub fn answer_with_messages(
 // The answer to hands without messages.
 fn answer_without_messages(alloc: Global, from: &Format, bytes: &[u8]) -> Result<Answer, Memory>
     ensures { IfOk result (λ answer. IsAnswerTo (SayRecords from.now bytes.now)
-        (HaveFault from.now bytes.now) (λ plays told. told ≡ done_said []) (answer_told answer)) }
+        (HaveFault from.now bytes.now) (λ plays shown. shown ≡ done_said []) (answer_said answer)) }
 {
     match plays(alloc, from, bytes) {
         Ok(plays) => no_messages(alloc, &plays),
@@ -88,7 +88,7 @@ fn answer_without_messages(alloc: Global, from: &Format, bytes: &[u8]) -> Result
 
 // The answer to hands without messages, from their plays.
 fn no_messages(alloc: Global, _: &[Play]) -> Result<Answer, Memory>
-    ensures { IfOk result (λ answer. answer_told answer ≡ done_said []) }
+    ensures { IfOk result (λ answer. answer_said answer ≡ done_said []) }
 {
     Ok(done(alloc, Vec::new(alloc)))
 }
@@ -103,7 +103,7 @@ fn answer_with_views(
     bytes: &[u8],
 ) -> Result<Answer, Memory>
     ensures { IfOk result (λ answer. IsAnswerTo (SayRecords from.now bytes.now)
-        (HaveFault from.now bytes.now) (AreViews game.now seat) (answer_told answer)) }
+        (HaveFault from.now bytes.now) (AreViews game.now seat) (answer_said answer)) }
 {
     match read_records(alloc, from, bytes) {
         Ok(records) => match views_of(alloc, game, seat, records) {
@@ -122,7 +122,7 @@ fn views_of(
     seat: Seat,
     records: SoundRecords,
 ) -> Result<Answer, PlaysFault>
-    ensures answer { IfOk result (λ answer. AreViewsOf game.now seat records (answer_told answer)) }
+    ensures answer { IfOk result (λ answer. AreViewsOf game.now seat records (answer_said answer)) }
     ensures refused { IfErr result (IsPlaysFaultOf records) }
 {
     let seen = SeenLines {
@@ -151,7 +151,7 @@ fn has_seat(game: &Game, seat: Seat) -> bool
 fn answer_with_seen(alloc: Global, seen: SeenLines) -> Result<Answer, Memory>
     ensures { (plays : List AnyPlay)
         → AreSeen seen.game seen.seat seen.kept seen.lines.items plays
-        → IfOk result (λ answer. AreViews seen.game seen.seat plays (answer_told answer)) }
+        → IfOk result (λ answer. AreViews seen.game seen.seat plays (answer_said answer)) }
 {
     let seats = seen.game.stacks.seats;
     if seats < seen.seat.number {
@@ -170,7 +170,7 @@ fn has_room(
     lines: &Vec<u8>,
     game: &Game,
     seat: Seat,
-    place: HandPlace,
+    place: HandIndex,
     play: &JudgedPlay<'_>,
 ) -> bool
     requires { length lines.now.items ≤ most_view_bytes }
@@ -190,7 +190,7 @@ fn push_views(
     lines: &mut Vec<u8>,
     game: &Game,
     seat: Seat,
-    place: HandPlace,
+    place: HandIndex,
     play: &JudgedPlay<'_>,
 ) -> Result<(), Memory>
     ensures { OnOk result (lines.new.items ≡ lines.old.items
@@ -203,7 +203,7 @@ fn push_views(
 
 // Seat number above the number of players.
 fn no_seat(alloc: Global, seat: Seat, seats: u8) -> Result<Answer, Memory>
-    ensures { IfOk result (λ answer. answer_told answer ≡ no_seat_said seat.number seats) }
+    ensures { IfOk result (λ answer. answer_said answer ≡ no_seat_said seat.number seats) }
 {
     let seat = seat.number;
     let line = try_format!(in alloc; "no such seat: {seat} of {seats}\n")?;

@@ -2,7 +2,7 @@
 ghost use Rattle.std.specs.Prelude.{◌≡◌, ◌++◌, ◌∷◌, List, Some, OnOk, IsTrue, string_bytes};
 ghost use Rattle.std.specs.Fmt.{decimal};
 ghost use Rattle.play_event.specs.CanonScript.{move_named, plain_move};
-ghost use Rattle.hand_canon.specs.Judged.{IsTraceOfLegal};
+ghost use Rattle.hand_canon.specs.LegalPlay.{IsTraceOfLegal};
 ghost use Rattle.hand_canon.specs.Sound.{IsSound};
 ghost use Rattle.phh_actions.specs.Written.{has_words};
 ghost use Rattle.phh_actions.specs.Written as written;

@@ -9,27 +9,27 @@ use Rattle.std.proofs.lemmas.List.Sums.{fold-append, sum_by-cons, sum_by-append}
 use Rattle.card_set.proofs.Counting.{count_by-cons}
 use Rattle.report_layout.specs.Names.{with_name}
 use Rattle.printed_report.specs.Report.{Hand, Seated, hands_with, name_line, names_of, net_of, seats_named, seats_of_all}
-use Rattle.printed_report.specs.Tallies.{row_names, tally_at, tally_line, with_hands, with_row, with_seat, with_seats}
+use Rattle.printed_report.specs.Tallies.{tally_at, tally_line, tally_names, with_hands, with_play, with_seat, with_seats}
 use Rattle.printed_report.specs.declared.tally.Tally.{Tally}
 use Rattle.printed_report.proofs.Rows.{at_row, names_insert, step}
 
 -- names in their order: the seats of a hand
 names_seats : (number : ℕ) (rows : List (List ℕ × Tally)) (seats : List Seated)
-    → row_names (with_seats number rows seats) ≡ fold with_name (row_names rows) (map (λ seat. seat.name) seats)
+    → tally_names (with_seats number rows seats) ≡ fold with_name (tally_names rows) (map (λ seat. seat.name) seats)
 names_seats number rows [] = refl
 names_seats number rows (seat ∷ seats) =
-    names_seats number (with_row number rows seat) seats
+    names_seats number (with_play number rows seat) seats
     ∙ ap (λ names. fold with_name names (map (λ seat. seat.name) seats)) (names_insert rows seat.name (with_seat number (tally_at rows seat.name) seat))
 
 -- and of more hands
 pub names_hands : (number : ℕ) (rows : List (List ℕ × Tally)) (hands : List Hand)
-    → row_names (with_hands number rows hands) ≡ fold with_name (row_names rows) (map (λ seat. seat.name) (seats_of_all hands))
+    → tally_names (with_hands number rows hands) ≡ fold with_name (tally_names rows) (map (λ seat. seat.name) (seats_of_all hands))
 names_hands number rows [] = refl
 names_hands number rows (hand ∷ hands) =
     names_hands (number + 1) (with_seats number rows hand.seats) hands
     ∙ ap (λ names. fold with_name names (map (λ seat. seat.name) (seats_of_all hands))) (names_seats number rows hand.seats)
-    ∙ sym (fold-append with_name (row_names rows) (map (λ seat. seat.name) hand.seats) (map (λ seat. seat.name) (seats_of_all hands)))
-    ∙ ap (λ names. fold with_name (row_names rows) names) (sym (map-append (λ seat. seat.name) hand.seats (seats_of_all hands)))
+    ∙ sym (fold-append with_name (tally_names rows) (map (λ seat. seat.name) hand.seats) (map (λ seat. seat.name) (seats_of_all hands)))
+    ∙ ap (λ names. fold with_name (tally_names rows) names) (sym (map-append (λ seat. seat.name) hand.seats (seats_of_all hands)))
 
 -- the tally of a name after the seats of a hand
 abbrev after : ℕ → List ℕ → Tally → List Seated → Tally
@@ -39,7 +39,7 @@ at_seats : (number : ℕ) (rows : List (List ℕ × Tally)) (seats : List Seated
     → tally_at (with_seats number rows seats) asked ≡ after number asked (tally_at rows asked) seats
 at_seats number rows [] asked = refl
 at_seats number rows (seat ∷ seats) asked =
-    at_seats number (with_row number rows seat) seats asked
+    at_seats number (with_play number rows seat) seats asked
     ∙ ap (λ tally. after number asked tally seats) (at_row number rows seat asked)
 
 summed : (f : Seated → ℕ) (g : Tally → ℕ) (number : ℕ) (asked : List ℕ)
@@ -144,6 +144,6 @@ one_line hands name =
 
 -- the lines of all names
 pub names_text : (hands : List Hand)
-    → flat_map (tally_line (with_hands 1 [] hands)) (row_names (with_hands 1 [] hands))
+    → flat_map (tally_line (with_hands 1 [] hands)) (tally_names (with_hands 1 [] hands))
     ≡ flat_map (λ name. name_line (net_of hands name) (hands_with hands name) name) (names_of hands)
 names_text hands = λ i. flat_map (λ name. one_line hands name i) (names_hands 1 [] hands i)

@@ -13,7 +13,7 @@ use Rattle.report_layout.specs.Indexed.{AreIndexed}
 use Rattle.report_layout.specs.Names.{with_name}
 use Rattle.report_layout.specs.declared.index.NameIndex.{NameIndex}
 use Rattle.report_layout.proofs.Placed.{known_place, last_place, place_range}
-use Rattle.printed_report.specs.Tallies.{AreNumbered, AreTallied, no_tally, row_names, rows_of, tally_at, tally_under}
+use Rattle.printed_report.specs.Tallies.{AreNumbered, AreTallied, named_tallies, no_tally, tally_at, tally_names, tally_under}
 use Rattle.printed_report.specs.declared.tally.NamedTally.{NamedTally}
 use Rattle.printed_report.specs.declared.tally.Tally.{Tally}
 use Rattle.printed_report.proofs.Rows.{at_front, names_insert}
@@ -37,35 +37,35 @@ place_behind name front names first other =
     by false = ap (λ (b : Bool). cond b (Some first) (position_from (bytes_eq name) (first + 1) (names ++ name ∷ []))) other
 
 -- entries and their names have the same number
-pub names_long : (entries : List (ℕ × NamedTally)) → length (row_names (rows_of entries)) ≡ length entries
+pub names_long : (entries : List (ℕ × NamedTally)) → length (tally_names (named_tallies entries)) ≡ length entries
 names_long entries =
-    length-map (rows_of entries) (λ (row : List ℕ × Tally). row.0)
+    length-map (named_tallies entries) (λ (row : List ℕ × Tally). row.0)
     ∙ length-map entries (λ (entry : ℕ × NamedTally). (entry.1.name, entry.1.tally))
 
 -- a place that is counted from a number on
 abbrev pub IsPlaceFrom : ℕ → List (ℕ × NamedTally) → List ℕ → ℕ → Type 0
-IsPlaceFrom first entries name place = position_from (bytes_eq name) first (with_name (row_names (rows_of entries)) name) ≡ Some place
+IsPlaceFrom first entries name place = position_from (bytes_eq name) first (with_name (tally_names (named_tallies entries)) name) ≡ Some place
 
 -- whether an entry at the front is that of a name is decided by its key
 same_key : (first : ℕ) (entry : ℕ × NamedTally) (entries : List (ℕ × NamedTally)) (name : List ℕ) (place : ℕ) → entry.0 ≡ first
     → IsPlaceFrom first (entry ∷ entries) name place → bytes_eq name entry.1.name ≡ true → nat_eq place entry.0 ≡ true
 same_key first entry entries name place key is same =
-    eq-eqb place entry.0 (same_Some place first (sym is ∙ place_here name entry.1.name (row_names (rows_of entries)) first same) ∙ sym key)
+    eq-eqb place entry.0 (same_Some place first (sym is ∙ place_here name entry.1.name (tally_names (named_tallies entries)) first same) ∙ sym key)
 
 later_place : (first : ℕ) (entry : ℕ × NamedTally) (entries : List (ℕ × NamedTally)) (name : List ℕ) (place : ℕ)
     → IsPlaceFrom first (entry ∷ entries) name place → bytes_eq name entry.1.name ≡ false → IsPlaceFrom (first + 1) entries name place
 later_place first entry entries name place is other =
-    sym (place_behind name entry.1.name (row_names (rows_of entries)) first other) ∙ is
+    sym (place_behind name entry.1.name (tally_names (named_tallies entries)) first other) ∙ is
 
 other_key : (first : ℕ) (entry : ℕ × NamedTally) (entries : List (ℕ × NamedTally)) (name : List ℕ) (place : ℕ) → entry.0 ≡ first
     → IsPlaceFrom (first + 1) entries name place → nat_eq place entry.0 ≡ false
 other_key first entry entries name place key later =
-    let range = place_range name (with_name (row_names (rows_of entries)) name) (first + 1) place later in
+    let range = place_range name (with_name (tally_names (named_tallies entries)) name) (first + 1) place later in
     ne_eqb place entry.0 (λ same. omega (arith, same, key, range.0))
 
 -- what is found at the place of a name is its tally
 found_under : (first : ℕ) (entries : List (ℕ × NamedTally)) (name : List ℕ) (place : ℕ) → AreNumbered first entries → IsPlaceFrom first entries name place
-    → tally_under entries place ≡ tally_at (rows_of entries) name
+    → tally_under entries place ≡ tally_at (named_tallies entries) name
 found_under first [] name place numbered is = refl
 found_under first (entry ∷ entries) name place numbered is = by (λ later. found_under (first + 1) entries name place numbered.1 later) (bytes_eq name entry.1.name) refl
   where
@@ -73,37 +73,37 @@ found_under first (entry ∷ entries) name place numbered is = by (λ later. fou
     under b = option_map_or (λ (named : NamedTally). named.tally) (cond b (Some entry.1) (lookup (nat_eq place) entries)) no_tally
 
     at : Bool → Tally
-    at b = cond b entry.1.tally (tally_at (rows_of entries) name)
+    at b = cond b entry.1.tally (tally_at (named_tallies entries) name)
 
-    by : (IsPlaceFrom (first + 1) entries name place → tally_under entries place ≡ tally_at (rows_of entries) name)
-        → (b : Bool) → bytes_eq name entry.1.name ≡ b → tally_under (entry ∷ entries) place ≡ tally_at (rows_of (entry ∷ entries)) name
+    by : (IsPlaceFrom (first + 1) entries name place → tally_under entries place ≡ tally_at (named_tallies entries) name)
+        → (b : Bool) → bytes_eq name entry.1.name ≡ b → tally_under (entry ∷ entries) place ≡ tally_at (named_tallies (entry ∷ entries)) name
     by rest true same =
         ap under (same_key first entry entries name place numbered.0 is same)
-        ∙ sym (at_front (entry.1.name, entry.1.tally) (rows_of entries) name ∙ ap at same)
+        ∙ sym (at_front (entry.1.name, entry.1.tally) (named_tallies entries) name ∙ ap at same)
     by rest false other =
         let later = later_place first entry entries name place is other in
         ap under (other_key first entry entries name place numbered.0 later)
         ∙ rest later
-        ∙ sym (at_front (entry.1.name, entry.1.tally) (rows_of entries) name ∙ ap at other)
+        ∙ sym (at_front (entry.1.name, entry.1.tally) (named_tallies entries) name ∙ ap at other)
 
 -- what is put at the place of a name is put into its row
 put_under : (first : ℕ) (entries : List (ℕ × NamedTally)) (named : NamedTally) (place : ℕ) → AreNumbered first entries → IsPlaceFrom first entries named.name place
-    → rows_of (insert_entry nat_eq entries place named) ≡ insert_entry bytes_eq (rows_of entries) named.name named.tally
+    → named_tallies (insert_entry nat_eq entries place named) ≡ insert_entry bytes_eq (named_tallies entries) named.name named.tally
 put_under first [] named place numbered is = refl
 put_under first (entry ∷ entries) named place numbered is = by (λ later. put_under (first + 1) entries named place numbered.1 later) (bytes_eq named.name entry.1.name) refl
   where
     under : Bool → List (List ℕ × Tally)
-    under b = rows_of (cond b ((entry.0, named) ∷ entries) (entry ∷ insert_entry nat_eq entries place named))
+    under b = named_tallies (cond b ((entry.0, named) ∷ entries) (entry ∷ insert_entry nat_eq entries place named))
 
     into : Bool → List (List ℕ × Tally)
-    into b = cond b ((entry.1.name, named.tally) ∷ rows_of entries) ((entry.1.name, entry.1.tally) ∷ insert_entry bytes_eq (rows_of entries) named.name named.tally)
+    into b = cond b ((entry.1.name, named.tally) ∷ named_tallies entries) ((entry.1.name, entry.1.tally) ∷ insert_entry bytes_eq (named_tallies entries) named.name named.tally)
 
-    by : (IsPlaceFrom (first + 1) entries named.name place → rows_of (insert_entry nat_eq entries place named) ≡ insert_entry bytes_eq (rows_of entries) named.name named.tally)
+    by : (IsPlaceFrom (first + 1) entries named.name place → named_tallies (insert_entry nat_eq entries place named) ≡ insert_entry bytes_eq (named_tallies entries) named.name named.tally)
         → (b : Bool) → bytes_eq named.name entry.1.name ≡ b
-        → rows_of (insert_entry nat_eq (entry ∷ entries) place named) ≡ insert_entry bytes_eq (rows_of (entry ∷ entries)) named.name named.tally
+        → named_tallies (insert_entry nat_eq (entry ∷ entries) place named) ≡ insert_entry bytes_eq (named_tallies (entry ∷ entries)) named.name named.tally
     by rest true same =
         ap under (same_key first entry entries named.name place numbered.0 is same)
-        ∙ ap (λ (name : List ℕ). (name, named.tally) ∷ rows_of entries) ((bytes_decides named.name entry.1.name).0 same)
+        ∙ ap (λ (name : List ℕ). (name, named.tally) ∷ named_tallies entries) ((bytes_decides named.name entry.1.name).0 same)
         ∙ sym (ap into same)
     by rest false other =
         let later = later_place first entry entries named.name place is other in
@@ -179,9 +179,9 @@ name_at first (entry ∷ entries) name place index named is here at =
     by zero there found rest true same =
         ap (λ (one : NamedTally). one.name) (sym (same_Some entry.1 named found)) ∙ sym ((bytes_decides name entry.1.name).0 same)
     by (suc k) there found rest true same =
-        absurd (omega (arith, there, same_Some place first (sym is ∙ place_here name entry.1.name (row_names (rows_of entries)) first same)))
+        absurd (omega (arith, there, same_Some place first (sym is ∙ place_here name entry.1.name (tally_names (named_tallies entries)) first same)))
     by zero there found rest false other =
-        absurd (omega (arith, there, (place_range name (with_name (row_names (rows_of entries)) name) (first + 1) place (later_place first entry entries name place is other)).0))
+        absurd (omega (arith, there, (place_range name (with_name (tally_names (named_tallies entries)) name) (first + 1) place (later_place first entry entries name place is other)).0))
     by (suc k) there found rest false other = rest k (later_place first entry entries name place is other) (omega (arith, there)) found
 
 -- the place that an index gives
@@ -190,7 +190,7 @@ pub is_place : (index : NameIndex) (entries : List (ℕ × NamedTally)) (name : 
     → ((names : List (List ℕ)) → AreIndexed index names → length names ≡ others → position_from (bytes_eq name) 0 (with_name names name) ≡ Some place)
     → IsPlaceFrom 0 entries name place
 is_place index entries name place others tallied many finds =
-    finds (row_names (rows_of entries)) tallied.names (omega (arith, names_long entries, many))
+    finds (tally_names (named_tallies entries)) tallied.names (omega (arith, names_long entries, many))
 
 -- the place of a name that is not after all names is among them
 pub place_within : (entries : List (ℕ × NamedTally)) (name : List ℕ) (place others : ℕ) → IsPlaceFrom 0 entries name place
@@ -198,39 +198,39 @@ pub place_within : (entries : List (ℕ × NamedTally)) (name : List ℕ) (place
 place_within entries name place others at many differ = by (list_any (bytes_eq name) names) refl
   where
     names : List (List ℕ)
-    names = row_names (rows_of entries)
+    names = tally_names (named_tallies entries)
 
-    long : length (row_names (rows_of entries)) ≡ length entries
+    long : length (tally_names (named_tallies entries)) ≡ length entries
     long = names_long entries
 
-    by : (b : Bool) → list_any (bytes_eq name) (row_names (rows_of entries)) ≡ b → place < length entries
-    by true known = omega (arith, known_place name (row_names (rows_of entries)) place known at, long)
-    by false missing = absurd (differ (omega (arith, last_place name (row_names (rows_of entries)) place missing at, long, many)))
+    by : (b : Bool) → list_any (bytes_eq name) (tally_names (named_tallies entries)) ≡ b → place < length entries
+    by true known = omega (arith, known_place name (tally_names (named_tallies entries)) place known at, long)
+    by false missing = absurd (differ (omega (arith, last_place name (tally_names (named_tallies entries)) place missing at, long, many)))
 
 -- a new name has no tally yet
 pub none_found : (entries : List (ℕ × NamedTally)) (name : List ℕ) (place : ℕ) → AreNumbered 0 entries → IsPlaceFrom 0 entries name place
-    → place ≡ length entries → no_tally ≡ tally_at (rows_of entries) name
+    → place ≡ length entries → no_tally ≡ tally_at (named_tallies entries) name
 none_found entries name place numbered at behind =
     sym (none_under 0 entries place numbered (omega (arith, behind))) ∙ found_under 0 entries name place numbered at
 
 -- and a known one has that of the entry at its place
 pub tally_found : (entries : List (ℕ × NamedTally)) (name : List ℕ) (place : ℕ) (named : NamedTally) → AreNumbered 0 entries → IsPlaceFrom 0 entries name place
-    → slice_get (values_of entries) place ≡ Some named → named.tally ≡ tally_at (rows_of entries) name
+    → slice_get (values_of entries) place ≡ Some named → named.tally ≡ tally_at (named_tallies entries) name
 tally_found entries name place named numbered at is =
     sym (under_at 0 entries place place named numbered (omega arith) is) ∙ found_under 0 entries name place numbered at
 
 -- a name that is put at its place is put into the rows, and they stay tallied
 pub rows_put : (entries : List (ℕ × NamedTally)) (named : NamedTally) (name : List ℕ) (place : ℕ) → AreNumbered 0 entries → IsPlaceFrom 0 entries name place
-    → named.name ≡ name → rows_of (insert_entry nat_eq entries place named) ≡ insert_entry bytes_eq (rows_of entries) name named.tally
+    → named.name ≡ name → named_tallies (insert_entry nat_eq entries place named) ≡ insert_entry bytes_eq (named_tallies entries) name named.tally
 rows_put entries named name place numbered at same =
     put_under 0 entries named place numbered (subst (λ (text : List ℕ). IsPlaceFrom 0 entries text place) (sym same) at)
-    ∙ ap (λ (text : List ℕ). insert_entry bytes_eq (rows_of entries) text named.tally) same
+    ∙ ap (λ (text : List ℕ). insert_entry bytes_eq (named_tallies entries) text named.tally) same
 
 pub still_tallied : (index : NameIndex) (entries : List (ℕ × NamedTally)) (named : NamedTally) (name : List ℕ) (place : ℕ)
-    → AreIndexed index (with_name (row_names (rows_of entries)) name) → AreNumbered 0 entries → IsPlaceFrom 0 entries name place → named.name ≡ name
+    → AreIndexed index (with_name (tally_names (named_tallies entries)) name) → AreNumbered 0 entries → IsPlaceFrom 0 entries name place → named.name ≡ name
     → AreTallied index (insert_entry nat_eq entries place named)
 still_tallied index entries named name place indexed numbered at same = record {
-  names = subst (AreIndexed index) (sym (ap row_names (rows_put entries named name place numbered at same) ∙ names_insert (rows_of entries) name named.tally)) indexed;
+  names = subst (AreIndexed index) (sym (ap tally_names (rows_put entries named name place numbered at same) ∙ names_insert (named_tallies entries) name named.tally)) indexed;
   places = still_numbered 0 entries named place numbered (subst (λ (text : List ℕ). IsPlaceFrom 0 entries text place) (sym same) at);
 }
 

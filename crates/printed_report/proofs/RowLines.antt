@@ -10,7 +10,7 @@ use Rattle.card_set.proofs.Bytes.{same_bytes}
 use Rattle.card_set.proofs.FlatMaps.{flat_map-map}
 use Rattle.report_layout.proofs.Distinct.{AreDistinct, bytes_flip, distinct_fold}
 use Rattle.printed_report.specs.Report.{Hand, seats_of_all}
-use Rattle.printed_report.specs.Tallies.{AreWithin, IsRowWithin, MOST_SEATS, row_line, row_names, rows_of, tally_at, tally_line, with_hands}
+use Rattle.printed_report.specs.Tallies.{AreWithin, IsRowWithin, MOST_SEATS, named_tallies, named_tally_line, tally_at, tally_line, tally_names, with_hands}
 use Rattle.printed_report.specs.declared.tally.NamedTally.{NamedTally}
 use Rattle.printed_report.specs.declared.tally.Tally.{Tally}
 use Rattle.printed_report.proofs.Named.{names_hands}
@@ -21,12 +21,12 @@ abbrev row_found : List (List ℕ × Tally) → List ℕ → (List ℕ × Tally)
 row_found rows name = (name, tally_at rows name)
 
 -- rows of different names are found by them
-rows_found : (rows : List (List ℕ × Tally)) → AreDistinct (row_names rows) → rows ≡ map (row_found rows) (row_names rows)
+rows_found : (rows : List (List ℕ × Tally)) → AreDistinct (tally_names rows) → rows ≡ map (row_found rows) (tally_names rows)
 rows_found [] distinct = refl
 rows_found (row ∷ rows) distinct =
     let here : tally_at (row ∷ rows) row.0 ≡ row.1 = at_front row rows row.0 ∙ ap (λ (b : Bool). cond b row.1 (tally_at rows row.0)) (same_bytes row.0) in
     ap (λ (tally : Tally). (row.0, tally) ∷ rows) (sym here)
-    ∙ ap (λ l. row_found (row ∷ rows) row.0 ∷ l) (rows_found rows distinct.1 ∙ passed (row_names rows) distinct.0)
+    ∙ ap (λ l. row_found (row ∷ rows) row.0 ∷ l) (rows_found rows distinct.1 ∙ passed (tally_names rows) distinct.0)
   where
     passed : (names : List (List ℕ)) → list_any (bytes_eq row.0) names ≡ false → map (row_found rows) names ≡ map (row_found (row ∷ rows)) names
     passed [] none = refl
@@ -37,15 +37,15 @@ rows_found (row ∷ rows) distinct =
         ∙ ap (λ l. row_found (row ∷ rows) name ∷ l) (passed names parts.1)
 
 -- the names of all hands are different
-distinct_rows : (hands : List Hand) → AreDistinct (row_names (with_hands 1 [] hands))
+distinct_rows : (hands : List Hand) → AreDistinct (tally_names (with_hands 1 [] hands))
 distinct_rows hands = subst AreDistinct (sym (names_hands 1 [] hands)) (distinct_fold [] (map (λ seat. seat.name) (seats_of_all hands)) tt)
 
 -- the lines of their rows are those of the names
 pub lines_by_name : (hands : List Hand)
-    → flat_map row_line (with_hands 1 [] hands) ≡ flat_map (tally_line (with_hands 1 [] hands)) (row_names (with_hands 1 [] hands))
+    → flat_map named_tally_line (with_hands 1 [] hands) ≡ flat_map (tally_line (with_hands 1 [] hands)) (tally_names (with_hands 1 [] hands))
 lines_by_name hands =
     let rows = with_hands 1 [] hands in
-    ap (flat_map row_line) (rows_found rows (distinct_rows hands)) ∙ flat_map-map row_line (row_found rows) (row_names rows)
+    ap (flat_map named_tally_line) (rows_found rows (distinct_rows hands)) ∙ flat_map-map named_tally_line (row_found rows) (tally_names rows)
 
 -- and each row is of no more seats than all hands have
 each_within : (rows : List (List ℕ × Tally)) (names : List (List ℕ)) → AreWithin MOST_SEATS rows → AllByRecursion IsRowWithin (map (row_found rows) names)
@@ -55,10 +55,10 @@ each_within rows (name ∷ names) within = (within name, each_within rows names 
 pub rows_within : (hands : List Hand) → AreWithin MOST_SEATS (with_hands 1 [] hands) → AllByRecursion IsRowWithin (with_hands 1 [] hands)
 rows_within hands within =
     let rows = with_hands 1 [] hands in
-    subst (AllByRecursion IsRowWithin) (sym (rows_found rows (distinct_rows hands))) (each_within rows (row_names rows) within)
+    subst (AllByRecursion IsRowWithin) (sym (rows_found rows (distinct_rows hands))) (each_within rows (tally_names rows) within)
 
 -- the row at an index
-row_here : (entries : List (ℕ × NamedTally)) (index : ℕ) → slice_get (rows_of entries) index ≡ option_map (λ entry. (entry.1.name, entry.1.tally)) (slice_get entries index)
+row_here : (entries : List (ℕ × NamedTally)) (index : ℕ) → slice_get (named_tallies entries) index ≡ option_map (λ entry. (entry.1.name, entry.1.tally)) (slice_get entries index)
 row_here [] zero = refl
 row_here [] (suc index) = refl
 row_here (entry ∷ entries) zero = refl
@@ -66,14 +66,14 @@ row_here (entry ∷ entries) (suc index) = row_here entries index
 
 -- its line
 pub line_here : (entries : List (ℕ × NamedTally)) (index place : ℕ) (named : NamedTally) → slice_get entries index ≡ Some (place, named)
-    → flat_map row_line (option_to_list (slice_get (rows_of entries) index)) ≡ row_line (named.name, named.tally)
+    → flat_map named_tally_line (option_to_list (slice_get (named_tallies entries) index)) ≡ named_tally_line (named.name, named.tally)
 line_here entries index place named at =
-    ap (λ row. flat_map row_line (option_to_list row)) (row_here entries index ∙ ap (option_map (λ entry. (entry.1.name, entry.1.tally))) at)
-    ∙ append-nil (row_line (named.name, named.tally))
+    ap (λ row. flat_map named_tally_line (option_to_list row)) (row_here entries index ∙ ap (option_map (λ entry. (entry.1.name, entry.1.tally))) at)
+    ∙ append-nil (named_tally_line (named.name, named.tally))
 
 -- and that it is of no more seats
 pub within_here : (entries : List (ℕ × NamedTally)) (index place : ℕ) (named : NamedTally) → slice_get entries index ≡ Some (place, named)
-    → AllByRecursion IsRowWithin (rows_of entries) → IsRowWithin (named.name, named.tally)
+    → AllByRecursion IsRowWithin (named_tallies entries) → IsRowWithin (named.name, named.tally)
 within_here [] zero place named at within = absurd (cc (at))
 within_here [] (suc index) place named at within = absurd (cc (at))
 within_here (entry ∷ entries) zero place named at within =

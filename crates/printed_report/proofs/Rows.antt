@@ -6,7 +6,7 @@ use Rattle.std.specs.Map.{lookup}
 use Rattle.indexmap.specs.IndexMap.{insert_entry}
 use Rattle.report_layout.specs.Names.{with_name}
 use Rattle.printed_report.specs.Report.{Seated}
-use Rattle.printed_report.specs.Tallies.{no_tally, row_names, tally_at, with_row, with_seat}
+use Rattle.printed_report.specs.Tallies.{no_tally, tally_at, tally_names, with_play, with_seat}
 use Rattle.printed_report.specs.declared.tally.Tally.{Tally}
 use Rattle.card_set.proofs.Bytes.{same_key}
 use Rattle.card_set.proofs.Lists.{longer_either}
@@ -52,18 +52,18 @@ at_insert (row ∷ rows) name tally asked = by (bytes_eq name row.0) refl (at_in
 
 -- a name that got a tally stays at its place, or comes last
 pub names_insert : (rows : List (List ℕ × Tally)) (name : List ℕ) (tally : Tally)
-    → row_names (insert_entry bytes_eq rows name tally) ≡ with_name (row_names rows) name
+    → tally_names (insert_entry bytes_eq rows name tally) ≡ with_name (tally_names rows) name
 names_insert [] name tally = refl
 names_insert (row ∷ rows) name tally = by (bytes_eq name row.0) (names_insert rows name tally)
   where
     by : (b : Bool)
-        → row_names (insert_entry bytes_eq rows name tally) ≡ with_name (row_names rows) name
-        → row_names (cond b ((row.0, tally) ∷ rows) (row ∷ insert_entry bytes_eq rows name tally))
-        ≡ cond (b || list_any (bytes_eq name) (row_names rows)) (row_names (row ∷ rows)) (row_names (row ∷ rows) ++ name ∷ [])
+        → tally_names (insert_entry bytes_eq rows name tally) ≡ with_name (tally_names rows) name
+        → tally_names (cond b ((row.0, tally) ∷ rows) (row ∷ insert_entry bytes_eq rows name tally))
+        ≡ cond (b || list_any (bytes_eq name) (tally_names rows)) (tally_names (row ∷ rows)) (tally_names (row ∷ rows) ++ name ∷ [])
     by true later = refl
     by false later =
         ap (λ rest. row.0 ∷ rest) later
-        ∙ longer_either (list_any (bytes_eq name) (row_names rows)) row.0 (row_names rows) (row_names rows ++ name ∷ [])
+        ∙ longer_either (list_any (bytes_eq name) (tally_names rows)) row.0 (tally_names rows) (tally_names rows ++ name ∷ [])
 
 -- a tally with one more seat, if the seat has the name
 abbrev pub step : ℕ → List ℕ → Tally → Seated → Tally
@@ -76,7 +76,7 @@ same_seat number rows seat asked false other = refl
 
 -- a seat adds to the tally of its name alone
 pub at_row : (number : ℕ) (rows : List (List ℕ × Tally)) (seat : Seated) (asked : List ℕ)
-    → tally_at (with_row number rows seat) asked ≡ step number asked (tally_at rows asked) seat
+    → tally_at (with_play number rows seat) asked ≡ step number asked (tally_at rows asked) seat
 at_row number rows seat asked =
     at_insert rows seat.name (with_seat number (tally_at rows seat.name) seat) asked
     ∙ same_seat number rows seat asked (bytes_eq asked seat.name) refl

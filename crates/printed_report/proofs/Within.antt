@@ -3,7 +3,7 @@ use Rattle.std.proofs.Common.{◌≡◌, ℕ, suc, ◌+◌, ◌-◌, ◌≤◌, 
 use Rattle.std.specs.List.{range_with_len}
 use Rattle.chip_ledger.specs.declared.seat_row.TheConstants.{MOST_AMOUNT}
 use Rattle.printed_report.specs.Report.{Hand, Seated}
-use Rattle.printed_report.specs.Tallies.{AreWithin, IsWithin, tally_at, with_hands, with_row, with_seat, with_seats}
+use Rattle.printed_report.specs.Tallies.{AreWithin, IsWithin, tally_at, with_hands, with_play, with_seat, with_seats}
 use Rattle.printed_report.specs.declared.tally.Tally.{Tally}
 use Rattle.printed_report.proofs.Rows.{at_row}
 
@@ -30,7 +30,7 @@ one_seat number seats tally seat false started finished within = wider seats (se
 
 -- rows with one more seat
 pub within_row : (number seats : ℕ) (rows : List (List ℕ × Tally)) (seat : Seated) → seat.started ≤ MOST_AMOUNT → seat.finished ≤ MOST_AMOUNT
-    → AreWithin seats rows → AreWithin (seats + 1) (with_row number rows seat)
+    → AreWithin seats rows → AreWithin (seats + 1) (with_play number rows seat)
 within_row number seats rows seat started finished within asked =
     subst (IsWithin (seats + 1)) (sym (at_row number rows seat asked))
     (one_seat number seats (tally_at rows asked) seat (bytes_eq asked seat.name) started finished (within asked))
@@ -41,7 +41,7 @@ within_none asked = record { started = omega arith; finished = omega arith; hand
 
 -- the seats that are left, from this one on
 pub next_seat : (number : ℕ) (rows : List (List ℕ × Tally)) (seated : ℕ → Seated) (index seats : ℕ) → index < seats
-    → with_seats number (with_row number rows (seated (index + 1))) (map seated (range_with_len (index + 1 + 1) (seats - (index + 1))))
+    → with_seats number (with_play number rows (seated (index + 1))) (map seated (range_with_len (index + 1 + 1) (seats - (index + 1))))
     ≡ with_seats number rows (map seated (range_with_len (index + 1) (seats - index)))
 next_seat number rows seated index seats within =
     let left : seats - index ≡ suc (seats - (index + 1)) = omega (arith, within) in

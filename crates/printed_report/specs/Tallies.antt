@@ -25,8 +25,8 @@ with_seat number tally seat =
     }
 
 -- the names of a map's entries, each with its tally
-abbrev pub rows_of : List (ℕ × NamedTally) → List (List ℕ × Tally)
-rows_of entries = map (λ entry. (entry.1.name, entry.1.tally)) entries
+abbrev pub named_tallies : List (ℕ × NamedTally) → List (List ℕ × Tally)
+named_tallies entries = map (λ entry. (entry.1.name, entry.1.tally)) entries
 
 -- the entries have consecutive numbers as keys, from this one on
 abbrev pub AreNumbered : ℕ → List (ℕ × NamedTally) → Type 0
@@ -34,13 +34,13 @@ AreNumbered first [] = Unit {0}
 AreNumbered first (entry ∷ rest) = (entry.0 ≡ first) × AreNumbered (first + 1) rest
 
 -- the names of rows
-abbrev pub row_names : List (List ℕ × Tally) → List (List ℕ)
-row_names rows = map (λ row. row.0) rows
+abbrev pub tally_names : List (List ℕ × Tally) → List (List ℕ)
+tally_names rows = map (λ row. row.0) rows
 
 -- an index finds the names of the rows of some entries, and each entry has the place of its name as
 -- its key
 pub record AreTallied (index : NameIndex) (entries : List (ℕ × NamedTally)) : Type 0 where
-  pub names : AreIndexed index (row_names (rows_of entries))
+  pub names : AreIndexed index (tally_names (named_tallies entries))
   pub places : AreNumbered 0 entries
 
 -- the tally at a place, or an empty one if there is none
@@ -53,13 +53,13 @@ abbrev pub tally_at : List (List ℕ × Tally) → List ℕ → Tally
 tally_at rows name = unwrap_or (lookup (bytes_eq name) rows) no_tally
 
 -- rows with one more seat
-abbrev pub with_row : ℕ → List (List ℕ × Tally) → Seated → List (List ℕ × Tally)
-with_row number rows seat =
+abbrev pub with_play : ℕ → List (List ℕ × Tally) → Seated → List (List ℕ × Tally)
+with_play number rows seat =
     insert_entry bytes_eq rows seat.name (with_seat number (tally_at rows seat.name) seat)
 
 -- rows with the seats of one more hand
 abbrev pub with_seats : ℕ → List (List ℕ × Tally) → List Seated → List (List ℕ × Tally)
-with_seats number rows seats = fold (with_row number) rows seats
+with_seats number rows seats = fold (with_play number) rows seats
 
 -- rows with the seats of more hands; the first has this number
 abbrev pub with_hands : ℕ → List (List ℕ × Tally) → List Hand → List (List ℕ × Tally)
@@ -86,9 +86,9 @@ abbrev pub IsRowWithin : (List ℕ × Tally) → Type 0
 IsRowWithin row = IsWithin MOST_SEATS row.1
 
 -- the line of a row
-abbrev pub row_line : (List ℕ × Tally) → List ℕ
-row_line row = name_line (pos row.1.finished -ℤ pos row.1.started) row.1.hands row.0
+abbrev pub named_tally_line : (List ℕ × Tally) → List ℕ
+named_tally_line row = name_line (pos row.1.finished -ℤ pos row.1.started) row.1.hands row.0
 
 -- the line of a name
 abbrev pub tally_line : List (List ℕ × Tally) → List ℕ → List ℕ
-tally_line rows name = row_line (name, tally_at rows name)
+tally_line rows name = named_tally_line (name, tally_at rows name)

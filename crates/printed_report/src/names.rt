@@ -2,7 +2,7 @@
 ghost use Rattle.std.specs.Prelude.{◌≡◌, OnOk, nat_eq};
 ghost use Rattle.indexmap.specs.IndexMap.{insert_entry};
 ghost use Rattle.printed_report.specs.Report.{seated_in};
-ghost use Rattle.printed_report.specs.Tallies.{AreTallied, AreWithin, MOST_SEATS, rows_of, with_row};
+ghost use Rattle.printed_report.specs.Tallies.{AreTallied, AreWithin, MOST_SEATS, named_tallies, with_play};
 
 use crate::tally::{NamedTally, no_tally, with_seat};
 use card_set::Memory;
@@ -23,10 +23,10 @@ pub fn tally_seat(
     play: &Play,
     seat: Seat,
 ) -> Result<(), Memory>
-    requires within { AreWithin MOST_SEATS (rows_of tallies.old.entries) }
+    requires within { AreWithin MOST_SEATS (named_tallies tallies.old.entries) }
     requires tallied { AreTallied places.old tallies.old.entries }
-    ensures rows { OnOk result (rows_of tallies.new.entries
-        ≡ with_row number (rows_of tallies.old.entries) (seated_in play.now seat.number)) }
+    ensures rows { OnOk result (named_tallies tallies.new.entries
+        ≡ with_play number (named_tallies tallies.old.entries) (seated_in play.now seat.number)) }
     ensures tallied { OnOk result (AreTallied places.new tallies.new.entries) }
 {
     let name = name_of(&play.hand.notes, seat);

@@ -5,7 +5,7 @@ ghost use Rattle.first_fault.specs.declared.limits.TheConstants.{MOST_HANDS};
 ghost use Rattle.hand_records.specs.declared.trace.Play.{Play as AnyPlay};
 ghost use Rattle.printed_report.specs.Report.{report_said};
 ghost use Rattle.printed_report.specs.SoFar.{IsReportSoFar};
-ghost use Rattle.printed_report.specs.Tallies.{IsRowWithin, row_line, rows_of};
+ghost use Rattle.printed_report.specs.Tallies.{IsRowWithin, named_tallies, named_tally_line};
 
 use crate::games::{Sums, add_to_sums, no_sums, push_sums};
 use crate::lines::push_name_line;
@@ -115,9 +115,9 @@ fn push_names(
     text: &mut String,
     tallies: &IndexMap<usize, NamedTally>,
 ) -> Result<(), Memory>
-    requires { AllByRecursion IsRowWithin (rows_of tallies.now.entries) }
+    requires { AllByRecursion IsRowWithin (named_tallies tallies.now.entries) }
     ensures { OnOk result (string_bytes text.new ≡ string_bytes text.old
-        ++ flat_map row_line (rows_of tallies.now.entries)) }
+        ++ flat_map named_tally_line (named_tallies tallies.now.entries)) }
 {
     for index in 0..tallies.len() {
         let (_, named) = tallies.get_index(index).unwrap();

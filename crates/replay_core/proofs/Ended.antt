@@ -65,15 +65,15 @@ module _ (setup : Setup) (rules : Rules) (script : List Said) (b : BettingState)
   card_seat seat low high = record { first = low; last = omega (arith, high, seats_are, ends.stands.seats) }
 
   pub puts_as : (puts : SeatRow) → ((p : Past) → betting.StandsFor b p → (seat : ℕ) → IsSeatOf b.setup.stacks.seats seat → amount_of puts seat ≡ chips_put b.setup (moves_of p) seat) → (seat : ℕ) → 1 ≤ seat → seat ≤ setup.stacks.seats → amount_of puts seat ≡ chips_put setup (moves_of past) seat
-  puts_as puts told seat low high =
-      told past ends.stands.betting seat (seat_of seat low high) ∙ ap (λ (s : Setup). chips_put s (moves_of past) seat) ends.same_setup
+  puts_as puts added seat low high =
+      added past ends.stands.betting seat (seat_of seat low high) ∙ ap (λ (s : Setup). chips_put s (moves_of past) seat) ends.same_setup
 
   pub left_as : (left : SeatRow) → ((p : Past) → betting.StandsFor b p → (seat : ℕ) → IsSeatOf b.setup.stacks.seats seat → amount_of left seat ≡ chips_left b.setup (moves_of p) seat) → (seat : ℕ) → 1 ≤ seat → seat ≤ setup.stacks.seats → amount_of left seat ≡ chips_left setup (moves_of past) seat
-  left_as left told seat low high =
-      told past ends.stands.betting seat (seat_of seat low high) ∙ ap (λ (s : Setup). chips_left s (moves_of past) seat) ends.same_setup
+  left_as left added seat low high =
+      added past ends.stands.betting seat (seat_of seat low high) ∙ ap (λ (s : Setup). chips_left s (moves_of past) seat) ends.same_setup
 
   pub lives_as : (live : LiveRow) → ((p : Past) → betting.StandsFor b p → (seat : ℕ) → IsSeatOf b.setup.stacks.seats seat → flag_of live seat ≡ is_live (moves_of p) seat) → (seat : ℕ) → 1 ≤ seat → seat ≤ setup.stacks.seats → flag_of live seat ≡ is_live (moves_of past) seat
-  lives_as live told seat low high = told past ends.stands.betting seat (seat_of seat low high)
+  lives_as live added seat low high = added past ends.stands.betting seat (seat_of seat low high)
 
   pub is_end : (code : Code) (live mucked unknown shown : LiveRow) (hands : HandRow) (board : CardRow) → setup.code ≡ code → live.seats ≡ b.setup.stacks.seats → shown.seats ≡ live.seats
       → ((p : Past) → betting.StandsFor b p → (seat : ℕ) → IsSeatOf b.setup.stacks.seats seat → flag_of live seat ≡ is_live (moves_of p) seat)

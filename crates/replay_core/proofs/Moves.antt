@@ -23,7 +23,7 @@ use Rattle.deal_core.proofs.StandsMove.{move_kept}
 use Rattle.play_laws.specs.CardEvents.{is_card_said}
 use Rattle.play_laws.proofs.CardTurns.{moves_kept}
 use Rattle.play_laws.proofs.LegalCards.{card_resolved}
-use Rattle.replay_core.specs.Told.{IsToldOf}
+use Rattle.replay_core.specs.AddedMoves.{AddsMove}
 
 -- an event that is not an event of cards takes place as a move
 pub record IsMove (setup : Setup) (past : Past) (event : Said) : Type 0 where
@@ -78,14 +78,14 @@ moved_stands t setup past event moved bet stepped stands is =
     (move_kept t past made.move stands (ap (λ (m : TracedMove). is_fold m.act) (sym same) ∙ is))
 
 -- the moves of the trace after a move
-pub move_told : (b : BettingState) (past : Past) (event : Said) (moved : rows.Move) → is_card_said event ≡ false → IsStepped b.setup past event moved → IsToldOf b event past (Some moved)
+pub move_told : (b : BettingState) (past : Past) (event : Said) (moved : rows.Move) → is_card_said event ≡ false → IsStepped b.setup past event moved → AddsMove b event past (Some moved)
 move_told b past event moved bet stepped =
     let made = made_move b.setup past event bet in
     ap (λ (p : Past). traced_moves b.setup (moves_of p)) made.made
     ∙ ap (λ (m : TracedMove). traced_moves b.setup (moves_of past) ++ m ∷ []) (sym (stepped made.move made.made))
 
 -- and after an event of cards
-pub none_told : (b : BettingState) (past : Past) (event : Said) → is_card_said event ≡ true → IsToldOf b event past None
+pub none_told : (b : BettingState) (past : Past) (event : Said) → is_card_said event ≡ true → AddsMove b event past None
 unfolding with_event
 none_told b past event card =
     ap (traced_moves b.setup) (moves_kept (resolved_on b.setup past (turn b.setup past).0 event) past (card_resolved b.setup past (turn b.setup past).0 event card))

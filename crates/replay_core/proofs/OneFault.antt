@@ -51,31 +51,31 @@ same_illegal setup rules script event other at also reason why is it =
     ∙ ap (faults.Illegal other also) (same_Some reason why reasons)
 
 pub one_fault : (setup : Setup) (rules : Rules) (script : List Event) (fault other : ReplayFault) → ¬ IsOutOfMemory fault → ¬ IsOutOfMemory other → IsFaultOf setup rules script fault → IsFaultOf setup rules script other → fault ≡ other
-one_fault setup rules script (faults.Illegal event at reason) (faults.Illegal other also why) told too is it = same_illegal setup rules script event other at also reason why is it
-one_fault setup rules script (faults.Illegal event at reason) (faults.EndsEarly events) told too is it = absurd (none_illegal setup rules script event at reason it.legal is)
-one_fault setup rules script (faults.Illegal event at reason) (faults.RakeTooBig pot) told too is it = absurd (none_illegal setup rules script event at reason it.played.legal is)
-one_fault setup rules script (faults.Illegal event at reason) (faults.NoShownHand pot) told too is it = absurd (none_illegal setup rules script event at reason it.played.legal is)
-one_fault setup rules script (faults.Illegal event at reason) (faults.Memory memory) told too is it = absurd (too tt)
-one_fault setup rules script (faults.EndsEarly events) (faults.Illegal event at reason) told too is it = absurd (none_illegal setup rules script event at reason is.legal it)
-one_fault setup rules script (faults.EndsEarly events) (faults.EndsEarly others) told too is it = ap faults.EndsEarly (is.counted ∙ sym it.counted)
-one_fault setup rules script (faults.EndsEarly events) (faults.RakeTooBig pot) told too is it = absurd (true≢false (sym is.early ∙ it.played.complete))
-one_fault setup rules script (faults.EndsEarly events) (faults.NoShownHand pot) told too is it = absurd (true≢false (sym is.early ∙ it.played.complete))
-one_fault setup rules script (faults.EndsEarly events) (faults.Memory memory) told too is it = absurd (too tt)
-one_fault setup rules script (faults.RakeTooBig pot) (faults.Illegal event at reason) told too is it = absurd (none_illegal setup rules script event at reason is.played.legal it)
-one_fault setup rules script (faults.RakeTooBig pot) (faults.EndsEarly events) told too is it = absurd (true≢false (sym it.early ∙ is.played.complete))
-one_fault setup rules script (faults.RakeTooBig pot) (faults.RakeTooBig other) told too is it = ap faults.RakeTooBig (same_Some pot other (sym is.above ∙ it.above))
-one_fault setup rules script (faults.RakeTooBig pot) (faults.NoShownHand other) told too is it = absurd (some_is_none (sym is.above ∙ it.no_rake_above))
-one_fault setup rules script (faults.RakeTooBig pot) (faults.Memory memory) told too is it = absurd (too tt)
-one_fault setup rules script (faults.NoShownHand pot) (faults.Illegal event at reason) told too is it = absurd (none_illegal setup rules script event at reason is.played.legal it)
-one_fault setup rules script (faults.NoShownHand pot) (faults.EndsEarly events) told too is it = absurd (true≢false (sym it.early ∙ is.played.complete))
-one_fault setup rules script (faults.NoShownHand pot) (faults.RakeTooBig other) told too is it = absurd (some_is_none (sym it.above ∙ is.no_rake_above))
-one_fault setup rules script (faults.NoShownHand pot) (faults.NoShownHand other) told too is it = ap faults.NoShownHand (same_Some pot other (sym is.unshown ∙ it.unshown))
-one_fault setup rules script (faults.NoShownHand pot) (faults.Memory memory) told too is it = absurd (too tt)
-one_fault setup rules script (faults.Memory memory) other told too is it = absurd (told tt)
+one_fault setup rules script (faults.Illegal event at reason) (faults.Illegal other also why) added too is it = same_illegal setup rules script event other at also reason why is it
+one_fault setup rules script (faults.Illegal event at reason) (faults.EndsEarly events) added too is it = absurd (none_illegal setup rules script event at reason it.legal is)
+one_fault setup rules script (faults.Illegal event at reason) (faults.RakeTooBig pot) added too is it = absurd (none_illegal setup rules script event at reason it.played.legal is)
+one_fault setup rules script (faults.Illegal event at reason) (faults.NoShownHand pot) added too is it = absurd (none_illegal setup rules script event at reason it.played.legal is)
+one_fault setup rules script (faults.Illegal event at reason) (faults.Memory memory) added too is it = absurd (too tt)
+one_fault setup rules script (faults.EndsEarly events) (faults.Illegal event at reason) added too is it = absurd (none_illegal setup rules script event at reason is.legal it)
+one_fault setup rules script (faults.EndsEarly events) (faults.EndsEarly others) added too is it = ap faults.EndsEarly (is.counted ∙ sym it.counted)
+one_fault setup rules script (faults.EndsEarly events) (faults.RakeTooBig pot) added too is it = absurd (true≢false (sym is.early ∙ it.played.complete))
+one_fault setup rules script (faults.EndsEarly events) (faults.NoShownHand pot) added too is it = absurd (true≢false (sym is.early ∙ it.played.complete))
+one_fault setup rules script (faults.EndsEarly events) (faults.Memory memory) added too is it = absurd (too tt)
+one_fault setup rules script (faults.RakeTooBig pot) (faults.Illegal event at reason) added too is it = absurd (none_illegal setup rules script event at reason is.played.legal it)
+one_fault setup rules script (faults.RakeTooBig pot) (faults.EndsEarly events) added too is it = absurd (true≢false (sym it.early ∙ is.played.complete))
+one_fault setup rules script (faults.RakeTooBig pot) (faults.RakeTooBig other) added too is it = ap faults.RakeTooBig (same_Some pot other (sym is.above ∙ it.above))
+one_fault setup rules script (faults.RakeTooBig pot) (faults.NoShownHand other) added too is it = absurd (some_is_none (sym is.above ∙ it.no_rake_above))
+one_fault setup rules script (faults.RakeTooBig pot) (faults.Memory memory) added too is it = absurd (too tt)
+one_fault setup rules script (faults.NoShownHand pot) (faults.Illegal event at reason) added too is it = absurd (none_illegal setup rules script event at reason is.played.legal it)
+one_fault setup rules script (faults.NoShownHand pot) (faults.EndsEarly events) added too is it = absurd (true≢false (sym it.early ∙ is.played.complete))
+one_fault setup rules script (faults.NoShownHand pot) (faults.RakeTooBig other) added too is it = absurd (some_is_none (sym it.above ∙ is.no_rake_above))
+one_fault setup rules script (faults.NoShownHand pot) (faults.NoShownHand other) added too is it = ap faults.NoShownHand (same_Some pot other (sym is.unshown ∙ it.unshown))
+one_fault setup rules script (faults.NoShownHand pot) (faults.Memory memory) added too is it = absurd (too tt)
+one_fault setup rules script (faults.Memory memory) other added too is it = absurd (added tt)
 
 pub no_fault : (setup : Setup) (rules : Rules) (script : List Event) (fault : ReplayFault) → ¬ IsOutOfMemory fault → IsLegalHand setup rules (said_by script) → IsFaultOf setup rules script fault → ⊥
-no_fault setup rules script (faults.Illegal event at reason) told legal is = none_illegal setup rules script event at reason legal.played.legal is
-no_fault setup rules script (faults.EndsEarly events) told legal is = true≢false (sym is.early ∙ legal.played.complete)
-no_fault setup rules script (faults.RakeTooBig pot) told legal is = some_is_none (sym is.above ∙ legal.shareable.no_rake_above)
-no_fault setup rules script (faults.NoShownHand pot) told legal is = some_is_none (sym is.unshown ∙ legal.shareable.no_unshown)
-no_fault setup rules script (faults.Memory memory) told legal is = told tt
+no_fault setup rules script (faults.Illegal event at reason) added legal is = none_illegal setup rules script event at reason legal.played.legal is
+no_fault setup rules script (faults.EndsEarly events) added legal is = true≢false (sym is.early ∙ legal.played.complete)
+no_fault setup rules script (faults.RakeTooBig pot) added legal is = some_is_none (sym is.above ∙ legal.shareable.no_rake_above)
+no_fault setup rules script (faults.NoShownHand pot) added legal is = some_is_none (sym is.unshown ∙ legal.shareable.no_unshown)
+no_fault setup rules script (faults.Memory memory) added legal is = added tt

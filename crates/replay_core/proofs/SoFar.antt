@@ -22,11 +22,11 @@ use Rattle.replay_core.specs.LegalPart.{ArePlayedBefore, IsLegalPart}
 use Rattle.play_event.proofs.SaidSoFar.{IsNext, said_next, so_far}
 
 -- the state of the play of a script after this many events
-pub record IsPlayedTo (setup : Setup) (rules : Rules) (script : List Event) (count : ℕ) (b : BettingState) (t : CardState) (told : List rows.Move) : Type 0 where
+pub record IsPlayedTo (setup : Setup) (rules : Rules) (script : List Event) (count : ℕ) (b : BettingState) (t : CardState) (added : List rows.Move) : Type 0 where
   pub earlier : (index : ℕ) → index < count → why_at setup rules (said_by script) index ≡ None
   pub legal : AreLegal setup rules (so_far script count)
   pub stands : StandTogether b t (past_of setup (so_far script count))
-  pub moves : AreMovesOf setup (past_of setup (so_far script count)) told
+  pub moves : AreMovesOf setup (past_of setup (so_far script count)) added
 
 why_next : (setup : Setup) (rules : Rules) (script : List Event) (count : ℕ) (event : Event) (found : Option Illegal) → slice_get script count ≡ Some event → why setup rules (past_of setup (so_far script count)) (said_of event) ≡ found → why_at setup rules (said_by script) count ≡ found
 why_next setup rules script count event found at is = ap (option_and_then (why setup rules (past_after setup (said_by script) count))) (said_next script count event at) ∙ is
@@ -38,7 +38,7 @@ pub one_more : (setup : Setup) (rules : Rules) (script : List Event) (count : �
     → StandTogether next after (with_event setup (said_of event) (past_of setup (so_far script count)))
     → AreMovesOf setup (with_event setup (said_of event) (past_of setup (so_far script count))) longer
     → IsPlayedTo setup rules script (count + 1) next after longer
-one_more setup rules script count event more b next t after moves longer is played legal stands told =
+one_more setup rules script count event more b next t after moves longer is played legal stands added =
     let P : List Said → Type 0 = λ events. StandTogether next after (past_of setup events) in
     let Q : List Said → Type 0 = λ events. AreMovesOf setup (past_of setup events) longer in
     let R : List Said → Type 0 = AreLegal setup rules in
@@ -49,14 +49,14 @@ one_more setup rules script count event more b next t after moves longer is play
       ];
       legal = subst R (sym is.longer) (legal, played.legal);
       stands = subst P (sym is.longer) stands;
-      moves = subst Q (sym is.longer) told;
+      moves = subst Q (sym is.longer) added;
     }
 
 -- the first illegal event
 pub refused_at : (setup : Setup) (rules : Rules) (script : List Event) (count : ℕ) (event : Event) (more : List Event) (b : BettingState) (t : CardState) (moves : List rows.Move) (fault : ReplayFault)
     → IsNext script count event more → IsPlayedTo setup rules script count b t moves → b.setup ≡ setup → b.rules ≡ rules → IsRefusedEvent b event (count + 1) (past_of setup (so_far script count)) fault → AreRefused setup rules script fault
-refused_at setup rules script count event more b t moves (faults.Illegal told at reason) is played same_setup same_rules refused =
-    let index : told - 1 ≡ count = omega (arith, refused.0) in
+refused_at setup rules script count event more b t moves (faults.Illegal added at reason) is played same_setup same_rules refused =
+    let index : added - 1 ≡ count = omega (arith, refused.0) in
     let legal : why setup rules (past_of setup (so_far script count)) (said_of event) ≡ Some reason =
     sym (ap (λ s. why s b.rules (past_of setup (so_far script count)) (said_of event)) same_setup ∙ ap (λ r. why setup r (past_of setup (so_far script count)) (said_of event)) same_rules) ∙ refused.2 in
     let P : ℕ → Type 0 = λ n. IsFirstIllegal setup rules (said_by script) n reason in
@@ -74,8 +74,8 @@ refused_at setup rules script count event more b t moves (faults.Memory memory) 
 pub moves_before : (setup : Setup) (rules : Rules) (script : List Event) (count : ℕ) (event : Event) (more : List Event) (b : BettingState) (t : CardState) (moves new : List rows.Move) (fault : ReplayFault)
     → IsNext script count event more → IsPlayedTo setup rules script count b t moves → new ≡ moves → AreRefused setup rules script fault → IsRefusedEvent b event (count + 1) (past_of setup (so_far script count)) fault
     → ArePlayedBefore setup rules (said_by script) new fault
-moves_before setup rules script count event more b t moves new (faults.Illegal told at reason) is played same first refused =
-    let index : told - 1 ≡ count = omega (arith, refused.0) in
+moves_before setup rules script count event more b t moves new (faults.Illegal added at reason) is played same first refused =
+    let index : added - 1 ≡ count = omega (arith, refused.0) in
     let P : ℕ → Type 0 = λ n. IsLegalPart setup rules (said_by script) n new in
     subst P (sym index)
     (record {

@@ -1,6 +1,6 @@
 -- What one more event does to a hand: the answer of the rules, and the state after it.
 use Rattle.std.specs.Prelude.{◌≡◌, Option, Some, None, Result, IfErr, IfOk, OnOk}
-use Rattle.betting_core.specs.Kept.{IsSameHand}
+use Rattle.betting_core.specs.HandNumbers.{IsSameHand}
 use Rattle.betting_numbers.specs.LegalMoves.{past_with, reason_after}
 use Rattle.betting_numbers.specs.declared.betting_state.BettingState.{BettingState}
 use Rattle.card_places.specs.declared.card_state.CardState.{CardState}
@@ -8,7 +8,7 @@ use Rattle.play_event.specs.Said.{Said}
 use Rattle.play_event.specs.declared.played.Move.{Move}
 use Rattle.play_event.specs.declared.reason.Illegal.{Illegal}
 use Rattle.replay_core.specs.Together.{StandTogether}
-use Rattle.replay_core.specs.Told.{IsToldOf, WhereTogether}
+use Rattle.replay_core.specs.AddedMoves.{AddsMove, WhereTogether}
 
 -- the hand is the same, and its cards have the same number of seats
 pub record IsHandOf (b next : BettingState) (t after : CardState) : Type 0 where
@@ -28,5 +28,5 @@ pub record Advances (b next : BettingState) (t after : CardState) (event : Said)
   pub stands :
       WhereTogether b t (λ past. OnOk answer (StandTogether next after (past_with b past event)))
   -- a move is returned as the trace keeps it
-  pub told : WhereTogether b t (λ past. IfOk answer (IsToldOf b event past))
+  pub added : WhereTogether b t (λ past. IfOk answer (AddsMove b event past))
   pub same : IsHandOf b next t after

@@ -34,8 +34,8 @@ pub record IsIllegalAt (setup : Setup) (rules : Rules) (script : List Event) (ev
 
 -- an event is refused after a past: it is illegal, or there is no memory for its move
 abbrev pub IsRefusedEvent : BettingState → Event → ℕ → Past → ReplayFault → Type 0
-IsRefusedEvent b event number past (faults.Illegal told at reason) =
-    (told ≡ number) × (at ≡ event.at) × (reason_after b past (said_of event) ≡ Some reason)
+IsRefusedEvent b event number past (faults.Illegal added at reason) =
+    (added ≡ number) × (at ≡ event.at) × (reason_after b past (said_of event) ≡ Some reason)
 IsRefusedEvent b event number past (faults.EndsEarly events) = ⊥
 IsRefusedEvent b event number past (faults.RakeTooBig pot) = ⊥
 IsRefusedEvent b event number past (faults.NoShownHand pot) = ⊥

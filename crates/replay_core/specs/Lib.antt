@@ -1,7 +1,7 @@
 -- Which pasts the betting and the cards of a hand both describe, what a step returns, and what a
 -- replay answers.
 pub mod Together
-pub mod Told
+pub mod AddedMoves
 pub mod Advances
 pub mod Events
 pub mod LegalPart

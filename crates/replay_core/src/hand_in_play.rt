@@ -17,7 +17,7 @@ ghost use Rattle.play_laws.specs.Done.{is_done};
 ghost use Rattle.play_laws.specs.Dues.{IsDueWithin};
 ghost use Rattle.replay_core.specs.Together.{StandTogether, StandUpToDue};
 ghost use Rattle.replay_core.specs.Advances.{Advances, IsHandOf};
-ghost use Rattle.replay_core.specs.Told.{TellsOfHand, WhereTogether};
+ghost use Rattle.replay_core.specs.AddedMoves.{HoldsForSeats, WhereTogether};
 
 use betting_core::Betting;
 use chip_ledger::{LiveRow, SeatRow};
@@ -55,7 +55,7 @@ impl<V: Variant> HandInPlay<V> {
 
     /// The chips that each seat has put into this hand, antes included.
     pub fn puts(&self) -> SeatRow
-        ensures { TellsOfHand result.seats self.now.betting self.now.cards
+        ensures { HoldsForSeats result.seats self.now.betting self.now.cards
             (λ past seat. amount_of result seat
             ≡ chips_put self.now.betting.setup (moves_of past) seat) }
     {
@@ -64,7 +64,7 @@ impl<V: Variant> HandInPlay<V> {
 
     /// The chips that each seat has left.
     pub fn stacks(&self) -> SeatRow
-        ensures { TellsOfHand result.seats self.now.betting self.now.cards
+        ensures { HoldsForSeats result.seats self.now.betting self.now.cards
             (λ past seat. amount_of result seat
             ≡ chips_left self.now.betting.setup (moves_of past) seat) }
     {
@@ -211,7 +211,7 @@ impl<V: Variant> HandInPlay<V> {
 
     /// Which seats are live: those that have not folded.
     pub fn live(&self) -> LiveRow
-        ensures { TellsOfHand result.seats self.now.betting self.now.cards
+        ensures { HoldsForSeats result.seats self.now.betting self.now.cards
             (λ past seat. flag_of result seat ≡ is_live (moves_of past) seat) }
     {
         self.betting.live()

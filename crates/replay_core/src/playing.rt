@@ -1,9 +1,9 @@
 //! Plays the events of a script, one after the other.
 ghost use Rattle.std.specs.Prelude.{◌≡◌, ◌<◌, ◌^◌, ◌++◌, [], length, map, reverse, None, IfErr, IfOk, OnErr, OnOk};
 ghost use Rattle.betting_numbers.specs.LegalMoves.{past_with, reason_after};
-ghost use Rattle.betting_core.specs.Kept.{IsSameHand};
+ghost use Rattle.betting_core.specs.HandNumbers.{IsSameHand};
 ghost use Rattle.replay_core.specs.Together.{StandTogether};
-ghost use Rattle.replay_core.specs.Told.{WhereTogether, moves_told};
+ghost use Rattle.replay_core.specs.AddedMoves.{WhereTogether, moves_added};
 ghost use Rattle.play_event.specs.PlayedScript.{IsPlayed, IsWithinLimits};
 ghost use Rattle.play_event.specs.Due as dues;
 ghost use Rattle.play_event.specs.Laws.{AreLegal};
@@ -111,7 +111,7 @@ fn play_event<V: Variant>(
     ensures kept { OnErr result (moves.new ≡ moves.old) }
 {
     match hand.advance(event) {
-        Ok(told) => match tell(moves, told) {
+        Ok(added) => match tell(moves, added) {
             Ok(()) => Ok(()),
             Err(memory) => Err(ReplayFault::Memory(memory)),
         },
@@ -124,12 +124,12 @@ fn play_event<V: Variant>(
 }
 
 // Appends a move, if there is one.
-fn tell(moves: &mut Moves, told: Option<Move>) -> Result<(), Memory>
-    ensures told { OnOk result
-        (map move_said moves.new ≡ map move_said moves.old ++ moves_told told) }
+fn tell(moves: &mut Moves, added: Option<Move>) -> Result<(), Memory>
+    ensures added { OnOk result
+        (map move_said moves.new ≡ map move_said moves.old ++ moves_added added) }
     ensures kept { OnErr result (moves.new ≡ moves.old) }
 {
-    match told {
+    match added {
         Some(moved) => moves.push(moved),
         None => Ok(()),
     }

@@ -5,7 +5,7 @@ use Rattle.std.proofs.lemmas.List.{length-map}
 use Rattle.std.proofs.lemmas.List.Sums.{length-filter}
 use Rattle.card_set.proofs.Sums.{sum_by-map, sum_by-same}
 use Rattle.chip_ledger.specs.declared.rakes.RakeRow.{RakeRow}
-use Rattle.chip_ledger.specs.Pots.{PlainPot, Stake, after_return, kept, reaching, whole_share}
+use Rattle.chip_ledger.specs.Pots.{PlainPot, Stake, after_return, reaching, whole_share, without_returned}
 use Rattle.chip_ledger.specs.Rakes.{nets_of}
 use Rattle.chip_ledger.proofs.SolePot.{live_stakes, one_pot, sole_pot}
 use Rattle.play_event.specs.declared.code.Code.{Code}
@@ -24,12 +24,12 @@ live_anyway false n = refl
 winners_of_one_pot : (stakes : List Stake) → length (reaching (after_return stakes) 0) ≡ live_stakes stakes
 unfolding after_return
 winners_of_one_pot stakes =
-    let left = map (kept stakes) stakes in
+    let left = map (without_returned stakes) stakes in
     let reaches : Stake → Bool = λ s. s.live && nat_le 0 s.chips in
     length-map (filter reaches left) (λ (s : Stake). s.seat)
     ∙ length-filter reaches left
     ∙ sum_by-same (λ (s : Stake). one_if (reaches s)) (λ (s : Stake). one_if s.live) (λ s. ap one_if (live_anyway s.live s.chips)) left
-    ∙ sum_by-map (λ (s : Stake). one_if s.live) (kept stakes) stakes
+    ∙ sum_by-map (λ (s : Stake). one_if s.live) (without_returned stakes) stakes
 
 shared_if : (code : Code) (showdown : Showdown) (rakes : RakeRow) (pot : PlainPot) (has : Bool)
     → length pot.eligible ≡ 1

@@ -12,8 +12,8 @@ pub record AreAlike (contending : ℕ → Bool) (a b : Ranking) : Type 0 where
   pub has_low : (n : ℕ) → IsTrue (contending n) → a.has_low n ↔ b.has_low n
 
 -- by these points, high and low, the shown seats compare as they do in the game
-abbrev pub AreJudged : Code → Showdown → (ℕ → Option ℕ) → (ℕ → Option ℕ) → Type 0
-AreJudged code showdown high low =
+abbrev pub AreScored : Code → Showdown → (ℕ → Option ℕ) → (ℕ → Option ℕ) → Type 0
+AreScored code showdown high low =
     (contending : ℕ → Bool)
     → ((n : ℕ) → contending n ≡ true → (1 ≤ n) × (n ≤ showdown.seats) × (showdown.shown n ≡ true))
     → AreAlike contending (ranking_by high low) (ranking_of code showdown)

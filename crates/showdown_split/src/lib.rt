@@ -11,17 +11,17 @@ ghost use Rattle.showdown_split.specs.Hands.{showdown_of};
 ghost use Rattle.showdown_split.specs.Playable.{ArePlayable, AreWinnable};
 
 mod division;
-mod judging;
 mod laws;
 mod net;
 mod pot;
 mod rakes;
 mod scores;
+mod scoring;
 mod winners;
 
 use card_set::CardRow;
 use chip_ledger::{LiveRow, PotRow, RakeRow, ShareRow};
-use judging::judged;
+use scoring::seat_scores;
 pub use laws::{no_winner_is_left_out, only_the_best_shown_hands_win, the_last_live_seat_wins};
 use net::net_of;
 use play_event::HandRow;
@@ -69,7 +69,7 @@ pub fn split<V: Variant>(
     ensures seats { IfOk result (λ shares.
         All (λ row. row.seats ≡ shown.now.seats) (shares_in shares)) }
 {
-    let (high, low) = judged::<V>(hands, board, shown);
+    let (high, low) = seat_scores::<V>(hands, board, shown);
     let mut shares = ShareRow::new();
     for pot in &pots.pots[..pots.count as usize] {
         let net = net_of(pot, rakes.rakes[shares.count as usize]);

@@ -3,12 +3,12 @@
 use Rattle.std.proofs.Common.{◌≡◌, ℕ, ◌<◌, ◌≤◌, Bool, true, false, ◌&&◌, ◌||◌, ◌==◌, not, nat_lt, inl, inr, List, [], ◌∷◌, sym, arith}
 use Rattle.std.proofs.lemmas.Bool.{and_from, cases_lt, eq-eqb, leb-false, leb-true, lt-ltb, ltb-false, ltb-true, not-true, not_from_false, or_cases, or_left, or_parts, or_right, true≢false}
 use Rattle.card_set.specs.declared.card.Card.{Card}
-use Rattle.card_set.specs.Deck.{deck_place}
+use Rattle.card_set.specs.Deck.{deck_index}
 use Rattle.card_set.specs.Ranks.{high_ace, low_ace, ranks_of}
 use Rattle.card_set.specs.UpCards.{up_high_class, low_class}
 use Rattle.play_event.specs.declared.limit.Opener.{Opener}
 use Rattle.play_event.specs.declared.limit.Opener.TheVariants.{Blinds, LowUp, HighUp}
-use Rattle.play_event.specs.Openers.{is_lower, is_opener_before, card_stands, razz_place}
+use Rattle.play_event.specs.Openers.{is_lower, is_opener_before, card_stands, razz_order}
 use Rattle.up_card_order.specs.Earliest.{is_as_high, is_as_low, opens_no_later}
 use Rattle.play_event.proofs.OpenerOrder.{lower_step, worse_trans}
 use Rattle.card_set.proofs.Tests.{second_fails}
@@ -61,10 +61,10 @@ low_late (x ∷ xs) (y ∷ ys) (z ∷ zs) p q =
 -- what the others open before is opened before by those that open as early
 pub early_opens : (opener : Opener) (first : Bool) (a b x : List Card) → opens_no_later opener first a b ≡ true → is_opener_before opener first b x ≡ true → is_opener_before opener first a x ≡ true
 early_opens LowUp true a b x p q =
-    let stand : List Card → ℕ = card_stands deck_place in
+    let stand : List Card → ℕ = card_stands deck_index in
     lt-ltb (stand a) (stand x) (let one : stand a ≤ stand b = leb-true (stand a) (stand b) p in let two : stand b < stand x = ltb-true (stand b) (stand x) q in omega (arith, one, two))
 early_opens HighUp true a b x p q =
-    let stand : List Card → ℕ = card_stands razz_place in
+    let stand : List Card → ℕ = card_stands razz_order in
     lt-ltb (stand x) (stand a) (let one : stand b ≤ stand a = leb-true (stand b) (stand a) p in let two : stand x < stand b = ltb-true (stand x) (stand b) q in omega (arith, one, two))
 early_opens LowUp false a b x p q =
     let heights : List Card → List ℕ = ranks_of high_ace in
@@ -77,10 +77,10 @@ early_opens Blinds first a b x p q = absurd (true≢false (sym q))
 -- what is opened before by those that do not open as early is opened before by the others too
 pub late_opens : (opener : Opener) (first : Bool) (a b x : List Card) → opens_no_later opener first a b ≡ false → is_opener_before opener first a x ≡ true → is_opener_before opener first b x ≡ true
 late_opens LowUp true a b x p q =
-    let stand : List Card → ℕ = card_stands deck_place in
+    let stand : List Card → ℕ = card_stands deck_index in
     lt-ltb (stand b) (stand x) (let one : stand b < stand a = leb-false (stand a) (stand b) p in let two : stand a < stand x = ltb-true (stand a) (stand x) q in omega (arith, one, two))
 late_opens HighUp true a b x p q =
-    let stand : List Card → ℕ = card_stands razz_place in
+    let stand : List Card → ℕ = card_stands razz_order in
     lt-ltb (stand x) (stand b) (let one : stand a < stand b = leb-false (stand b) (stand a) p in let two : stand x < stand a = ltb-true (stand x) (stand a) q in omega (arith, one, two))
 late_opens LowUp false a b x p q =
     let heights : List Card → List ℕ = ranks_of high_ace in

@@ -1,12 +1,12 @@
 -- When up-cards open at least as early as others.
 use Rattle.std.specs.Prelude.{ℕ, Bool, true, false, ◌&&◌, ◌||◌, ◌==◌, nat_lt, nat_le, List, [], ◌∷◌}
 use Rattle.card_set.specs.declared.card.Card.{Card}
-use Rattle.card_set.specs.Deck.{deck_place}
+use Rattle.card_set.specs.Deck.{deck_index}
 use Rattle.card_set.specs.Ranks.{high_ace, low_ace, ranks_of}
 use Rattle.card_set.specs.UpCards.{up_high_class, low_class}
 use Rattle.play_event.specs.declared.limit.Opener.{Opener}
 use Rattle.play_event.specs.declared.limit.Opener.TheVariants as openers
-use Rattle.play_event.specs.Openers.{card_stands, razz_place}
+use Rattle.play_event.specs.Openers.{card_stands, razz_order}
 
 -- at the first place where the lists differ, the left one is higher, or the left list is longer
 abbrev pub is_as_high : List ℕ → List ℕ → Bool
@@ -26,9 +26,9 @@ is_as_low (height ∷ rest) (other ∷ others) =
 -- before. If two rows of up-cards are the same as far as the shorter goes, the longer is earlier:
 -- neither opens before the other, but the longer opens before more.
 abbrev pub opens_no_later : Opener → Bool → List Card → List Card → Bool
-opens_no_later openers.LowUp true a b = nat_le (card_stands deck_place a) (card_stands deck_place b)
-opens_no_later openers.HighUp true a b = nat_le (card_stands razz_place b)
-    (card_stands razz_place a)
+opens_no_later openers.LowUp true a b = nat_le (card_stands deck_index a) (card_stands deck_index b)
+opens_no_later openers.HighUp true a b = nat_le (card_stands razz_order b)
+    (card_stands razz_order a)
 opens_no_later openers.LowUp false a b =
     nat_lt (up_high_class a) (up_high_class b)
     || ((up_high_class b == up_high_class a)

@@ -6,14 +6,14 @@ ghost use Rattle.card_set.specs.Row.{cards_of};
 ghost use Rattle.card_set.specs.UpCards as up_cards;
 ghost use Rattle.play_event.specs.Openers as openers;
 ghost use Rattle.play_event.specs.declared.limit.Opener.TheVariants as openings;
-ghost use Rattle.play_event.specs.Openers.{card_stands, is_lower, razz_place};
+ghost use Rattle.play_event.specs.Openers.{card_stands, is_lower, razz_order};
 ghost use Rattle.up_card_order.specs.HeightRow.{heights_in};
 ghost use Rattle.up_card_order.specs.Earliest as earliest;
 ghost use Rattle.up_card_order.specs.UpClass.{high_class_by, low_class_by};
 
 use crate::counting::ranks_in;
 use crate::heights::Heights;
-use card_set::{CardRow, place_in_deck, place_of_suit};
+use card_set::{CardRow, index_in_deck, suit_index};
 use hand_order::{Ace, height_of};
 use play_event::Opener;
 
@@ -99,11 +99,11 @@ pub fn opens_no_later(opener: Opener, first: bool, a: &CardRow, b: &CardRow) -> 
 
 // The position of the first card in the deck's order.
 fn deck_stand(cards: &CardRow) -> u8
-    ensures { result ≡ card_stands deck.deck_place (cards_of cards.now) }
+    ensures { result ≡ card_stands deck.deck_index (cards_of cards.now) }
 {
     match cards.as_slice() {
         [] => 0,
-        [card, ..] => place_in_deck(*card),
+        [card, ..] => index_in_deck(*card),
     }
 }
 
@@ -172,11 +172,11 @@ fn as_high(a: &[u8], b: &[u8]) -> bool
 
 // The position of the first card in the order of razz.
 fn razz_stand(cards: &CardRow) -> u8
-    ensures { result ≡ card_stands razz_place (cards_of cards.now) }
+    ensures { result ≡ card_stands razz_order (cards_of cards.now) }
 {
     match cards.as_slice() {
         [] => 0,
-        [card, ..] => 4 * height_of(card.rank, Ace::Low) + place_of_suit(card.suit),
+        [card, ..] => 4 * height_of(card.rank, Ace::Low) + suit_index(card.suit),
     }
 }
 

@@ -12,7 +12,7 @@ ghost use Rattle.variant_table.specs.Variants.{AreValuesOf, IsOrder, IsUsable, A
 ghost use Rattle.variant_table.specs.TableLaws.{table_adds_up, usable_award, usable_second};
 
 use crate::deck::SHORT_DECK;
-use card_set::{Card, Rank, place_of_rank};
+use card_set::{Card, Rank, rank_index};
 use hand_order::{HandOrder, Pick};
 use play_event::{Code, Limit, Opener, Street};
 
@@ -68,7 +68,7 @@ pub trait Variant {
     fn in_deck(card: Card) -> bool
         ensures { result ≡ is_in_deck CODE card }
     {
-        Self::DECK != SHORT_DECK || place_of_rank(card.rank) >= place_of_rank(Rank::Six)
+        Self::DECK != SHORT_DECK || rank_index(card.rank) >= rank_index(Rank::Six)
     }
 
     /// The constants are those of the table of games.

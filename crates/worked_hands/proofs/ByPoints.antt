@@ -5,7 +5,7 @@ use Rattle.std.specs.List.{AllByRecursion, list_any}
 use Rattle.std.proofs.lemmas.Bool.{and_parts, eqb-true, eq-eqb, or_cases}
 use Rattle.card_set.proofs.Tests.{false_true}
 use Rattle.card_set.specs.declared.card.Card.{Card}
-use Rattle.card_set.specs.Deck.{deck_place}
+use Rattle.card_set.specs.Deck.{deck_index}
 use Rattle.card_set.specs.Different.{AllDifferent, Lacks}
 use Rattle.chip_ledger.specs.Pots.{PlainPot}
 use Rattle.hand_order.specs.Best.{IsLess}
@@ -28,7 +28,7 @@ use Rattle.worked_hands.proofs.OneContends.{never_itself, one_contends}
 -- a card lies at another place of the deck than each of these
 abbrev lies_apart : Card → List Card → Bool
 lies_apart card [] = true
-lies_apart card (other ∷ rest) = not (deck_place card == deck_place other) && lies_apart card rest
+lies_apart card (other ∷ rest) = not (deck_index card == deck_index other) && lies_apart card rest
 
 -- all cards do
 abbrev pub lie_apart : List Card → Bool
@@ -38,8 +38,8 @@ lie_apart (card ∷ rest) = lies_apart card rest && lie_apart rest
 lacks : (card : Card) (cards : List Card) → lies_apart card cards ≡ true → Lacks card cards
 lacks card [] is = tt
 lacks card (other ∷ rest) is =
-    let parts = and_parts (not (deck_place card == deck_place other)) (lies_apart card rest) is in
-    (λ same. false_true (sym (ap not (eq-eqb (deck_place card) (deck_place other) (ap deck_place same))) ∙ parts.0), lacks card rest parts.1)
+    let parts = and_parts (not (deck_index card == deck_index other)) (lies_apart card rest) is in
+    (λ same. false_true (sym (ap not (eq-eqb (deck_index card) (deck_index other) (ap deck_index same))) ∙ parts.0), lacks card rest parts.1)
 
 apart : (cards : List Card) → lie_apart cards ≡ true → AllDifferent cards
 apart [] is = tt

@@ -5,7 +5,7 @@ use Rattle.std.proofs.lemmas.List.{append_assoc}
 use Rattle.card_set.proofs.Tests.{false_true}
 use Rattle.card_set.specs.declared.card.Slot.{Slot}
 use Rattle.card_set.specs.declared.card.Slot.TheVariants as slots
-use Rattle.card_set.proofs.DeckLaws.{deck_place-same}
+use Rattle.card_set.proofs.DeckLaws.{deck_index-same}
 use Rattle.chip_ledger.specs.Pots.{PlainPot}
 use Rattle.play_event.specs.Past.{Act, BroughtIn, Called, Folded, Raised}
 use Rattle.play_event.specs.Trace.{TracedMove, TracedPlace}
@@ -23,7 +23,7 @@ same_list (x ∷ xs) (y ∷ ys) is = by_first (x == y) refl is (same_list xs ys)
     by_first false same rest later = false_true rest
 
 same_slot : (a b : Slot) → slot_number a ≡ slot_number b → a ≡ b
-same_slot (slots.Known a) (slots.Known b) is = ap (λ card. slots.Known card) (deck_place-same a b (cc (is)))
+same_slot (slots.Known a) (slots.Known b) is = ap (λ card. slots.Known card) (deck_index-same a b (cc (is)))
 same_slot (slots.Known a) slots.Unknown is = cc (is)
 same_slot slots.Unknown (slots.Known b) is = cc (is)
 same_slot slots.Unknown slots.Unknown is = refl

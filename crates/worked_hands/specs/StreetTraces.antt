@@ -8,7 +8,7 @@ use Rattle.hand_records.specs.declared.trace.Trace.{Trace}
 use Rattle.worked_hands.specs.Setups.{stud, triple_draw}
 use Rattle.worked_hands.specs.PlaySetups.{badugi, three_in_single_draw}
 use Rattle.worked_hands.specs.TraceRows.{flags_of, pot_of, pots_of, shares_of}
-use Rattle.worked_hands.specs.Traces.{dealt_to, kept_by, moved, moved_fixed, p1, p2, p3, p4, p5, p6, placed}
+use Rattle.worked_hands.specs.Traces.{dealt_to, held_by, moved, moved_fixed, p1, p2, p3, p4, p5, p6, placed}
 
 -- stud: p2 shows its down-cards, and p1 mucks
 abbrev pub stud_trace : Trace
@@ -18,11 +18,11 @@ stud_trace =
       places =
           dealt_to p1 (codes "????2c")
           ++ (dealt_to p2 (codes "6c5c2d")
-          ++ (kept_by p1 2 (codes "Kc") ++ (kept_by p2 2 (codes "3d")
-          ++ (kept_by p1 3 (codes "4h")
-          ++ (kept_by p2 3 (codes "4s")
-          ++ (kept_by p1 4 (codes "9h") ++ (kept_by p2 4 (codes "9s")
-          ++ (kept_by p1 5 (codes "??") ++ kept_by p2 5 (codes "7c")))))))));
+          ++ (held_by p1 2 (codes "Kc") ++ (held_by p2 2 (codes "3d")
+          ++ (held_by p1 3 (codes "4h")
+          ++ (held_by p2 3 (codes "4s")
+          ++ (held_by p1 4 (codes "9h") ++ (held_by p2 4 (codes "9s")
+          ++ (held_by p1 5 (codes "??") ++ held_by p2 5 (codes "7c")))))))));
       moves =
           moved_fixed 1 p1 acts.BringIn 0 1 0 2 ∷ moved_fixed 1 p2 acts.Raise 0 2 1 2
           ∷ moved_fixed 1 p1 acts.Call 1 2 2 4
@@ -45,15 +45,15 @@ mixed_trace =
     record {
       setup = three_in_single_draw;
       places =
-          kept_by p1 1 (codes "2c")
+          held_by p1 1 (codes "2c")
           ++ (placed (Some p1) 1 (codes "9c4c") 2
-          ++ (kept_by p1 1 (codes "5c") ++ (placed (Some p1) 1 (codes "??") 2
-          ++ (kept_by p2 1 (codes "2h")
-          ++ (placed (Some p2) 1 (codes "3h") 2 ++ (kept_by p2 1 (codes "4h5h7h")
+          ++ (held_by p1 1 (codes "5c") ++ (placed (Some p1) 1 (codes "??") 2
+          ++ (held_by p2 1 (codes "2h")
+          ++ (placed (Some p2) 1 (codes "3h") 2 ++ (held_by p2 1 (codes "4h5h7h")
           ++ (placed (Some p3) 1 (codes "??") 2
-          ++ (kept_by p3 1 (codes "9hTsJs") ++ (placed (Some p3) 1 (codes "Th") 2
-          ++ (kept_by p1 2 (codes "6d7d8d")
-          ++ (kept_by p2 2 (codes "??") ++ kept_by p3 2 (codes "JdQd"))))))))))));
+          ++ (held_by p3 1 (codes "9hTsJs") ++ (placed (Some p3) 1 (codes "Th") 2
+          ++ (held_by p1 2 (codes "6d7d8d")
+          ++ (held_by p2 2 (codes "??") ++ held_by p3 2 (codes "JdQd"))))))))))));
       moves =
           moved 1 p3 acts.Raise 0 40 2 ∷ moved 1 p1 acts.Call 1 40 40 ∷ moved 1 p2 acts.Call 2 40 40
           ∷ [];
@@ -72,10 +72,10 @@ folded_trace =
     record {
       setup = three_in_single_draw;
       places =
-          kept_by p1 1 (codes "2c3c4c5c")
-          ++ (placed (Some p1) 1 (codes "7c") 2 ++ (kept_by p2 1 (codes "??????????")
-          ++ (placed (Some p3) 1 (codes "????") 2 ++ (kept_by p3 1 (codes "??????")
-          ++ (kept_by p1 2 (codes "8d") ++ kept_by p3 2 (codes "????"))))));
+          held_by p1 1 (codes "2c3c4c5c")
+          ++ (placed (Some p1) 1 (codes "7c") 2 ++ (held_by p2 1 (codes "??????????")
+          ++ (placed (Some p3) 1 (codes "????") 2 ++ (held_by p3 1 (codes "??????")
+          ++ (held_by p1 2 (codes "8d") ++ held_by p3 2 (codes "????"))))));
       moves =
           moved 1 p3 acts.Raise 0 4 2 ∷ moved 1 p1 acts.Call 1 4 4 ∷ moved 1 p2 acts.Fold 2 2 4
           ∷ moved 2 p1 acts.Raise 0 10 0 ∷ moved 2 p3 acts.Fold 0 0 10 ∷ [];
@@ -95,18 +95,18 @@ past_deck_trace =
     record {
       setup = triple_draw;
       places =
-          placed (Some p1) 1 (codes "2c3c4c") 2 ++ (kept_by p1 1 (codes "5c7c")
+          placed (Some p1) 1 (codes "2c3c4c") 2 ++ (held_by p1 1 (codes "5c7c")
           ++ (placed (Some p2) 1 (codes "??????") 2 ++ (placed (Some p2) 1 (codes "????") 3
           ++ (placed (Some p3) 1 (codes "??????") 2
-          ++ (placed (Some p3) 1 (codes "Kc") 4 ++ (kept_by p3 1 (codes "??")
-          ++ (placed (Some p4) 1 (codes "??????") 2 ++ (kept_by p4 1 (codes "????")
-          ++ (placed (Some p5) 1 (codes "??????") 2 ++ (kept_by p5 1 (codes "????")
-          ++ (placed (Some p6) 1 (codes "??????") 2 ++ (kept_by p6 1 (codes "????")
-          ++ (kept_by p1 2 (codes "8d9dTd")
-          ++ (placed (Some p2) 2 (codes "??????") 3 ++ (kept_by p3 2 (codes "??????")
-          ++ (kept_by p4 2 (codes "??????")
-          ++ (kept_by p5 2 (codes "??????") ++ (kept_by p6 2 (codes "??????")
-          ++ (kept_by p2 3 (codes "????2c????") ++ kept_by p3 4 (codes "??"))))))))))))))))))));
+          ++ (placed (Some p3) 1 (codes "Kc") 4 ++ (held_by p3 1 (codes "??")
+          ++ (placed (Some p4) 1 (codes "??????") 2 ++ (held_by p4 1 (codes "????")
+          ++ (placed (Some p5) 1 (codes "??????") 2 ++ (held_by p5 1 (codes "????")
+          ++ (placed (Some p6) 1 (codes "??????") 2 ++ (held_by p6 1 (codes "????")
+          ++ (held_by p1 2 (codes "8d9dTd")
+          ++ (placed (Some p2) 2 (codes "??????") 3 ++ (held_by p3 2 (codes "??????")
+          ++ (held_by p4 2 (codes "??????")
+          ++ (held_by p5 2 (codes "??????") ++ (held_by p6 2 (codes "??????")
+          ++ (held_by p2 3 (codes "????2c????") ++ held_by p3 4 (codes "??"))))))))))))))))))));
       moves =
           moved_fixed 1 p3 acts.Call 0 2 2 4 ∷ moved_fixed 1 p4 acts.Call 0 2 2 4
           ∷ moved_fixed 1 p5 acts.Call 0 2 2 4
@@ -141,14 +141,14 @@ badugi_trace =
     record {
       setup = badugi;
       places =
-          kept_by p1 1 (codes "Ac2d3h")
+          held_by p1 1 (codes "Ac2d3h")
           ++ (placed (Some p1) 1 (codes "3s") 2 ++ (placed (Some p2) 1 (codes "Qh??") 2
           ++ (placed (Some p2) 1 (codes "??") 3
-          ++ (kept_by p2 1 (codes "Th")
-          ++ (kept_by p3 1 (codes "Ks") ++ (placed (Some p3) 1 (codes "KdKhKc") 2
-          ++ (kept_by p1 2 (codes "4s")
-          ++ (kept_by p2 2 (codes "7d8s")
-          ++ (kept_by p3 2 (codes "4d5h6c") ++ kept_by p2 3 (codes "9c"))))))))));
+          ++ (held_by p2 1 (codes "Th")
+          ++ (held_by p3 1 (codes "Ks") ++ (placed (Some p3) 1 (codes "KdKhKc") 2
+          ++ (held_by p1 2 (codes "4s")
+          ++ (held_by p2 2 (codes "7d8s")
+          ++ (held_by p3 2 (codes "4d5h6c") ++ held_by p2 3 (codes "9c"))))))))));
       moves =
           moved_fixed 1 p3 acts.Call 0 2 2 4 ∷ moved_fixed 1 p1 acts.Call 1 2 2 4
           ∷ moved_fixed 1 p2 acts.Call 2 2 2 4

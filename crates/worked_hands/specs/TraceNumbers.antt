@@ -2,7 +2,7 @@
 use Rattle.std.specs.Prelude.{ℕ, suc, Bool, true, false, ◌==◌, if◌then◌else◌, List, [], ◌∷◌, ◌++◌, flat_map, length, Option, Some, None}
 use Rattle.card_set.specs.declared.card.Slot.{Slot}
 use Rattle.card_set.specs.declared.card.Slot.TheVariants as slots
-use Rattle.card_set.specs.Deck.{deck_place}
+use Rattle.card_set.specs.Deck.{deck_index}
 use Rattle.chip_ledger.specs.Pots.{PlainPot}
 use Rattle.play_event.specs.Past.{Act, Folded, Called, Raised, BroughtIn}
 use Rattle.play_event.specs.Trace.{TracedMove, TracedPlace}
@@ -10,7 +10,7 @@ use Rattle.play_event.specs.TraceCore.{TraceCore}
 
 -- a card as a number: 0 if it is unknown
 abbrev pub slot_number : Slot → ℕ
-slot_number (slots.Known card) = suc (deck_place card)
+slot_number (slots.Known card) = suc (deck_index card)
 slot_number slots.Unknown = 0
 
 -- an owner as a number: 0 for the board

@@ -46,8 +46,8 @@ placed owner street cards gone =
     (slots_named cards)
 
 -- cards of a seat that are kept
-abbrev pub kept_by : Seat → ℕ → List ℕ → List Place
-kept_by seat street cards = placed (Some seat) street cards 0
+abbrev pub held_by : Seat → ℕ → List ℕ → List Place
+held_by seat street cards = placed (Some seat) street cards 0
 
 -- cards of the board
 abbrev pub on_board : ℕ → List ℕ → List Place
@@ -55,7 +55,7 @@ on_board street cards = placed None street cards 0
 
 -- the cards of a text, dealt to a seat on the first street
 abbrev pub dealt_to : Seat → List ℕ → List Place
-dealt_to seat cards = kept_by seat 1 cards
+dealt_to seat cards = held_by seat 1 cards
 
 -- what a seat did on a street of fixed limit: its bet on the street before and after, the current
 -- bet before, and the target of a raise by the raise unit

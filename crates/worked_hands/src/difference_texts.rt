@@ -6,7 +6,7 @@ ghost use Rattle.hand_records.specs.declared.notes.NoteName.TheVariants as names
 
 /// Each kind of difference in its words. The function does nothing: its contract is computed from
 /// the definition.
-pub fn told_differences()
+pub fn printed_differences()
     ensures variant { difference_text Variant ≡ codes "Variant" }
     ensures seat_count { difference_text SeatCount ≡ codes "SeatCount" }
     ensures stacks { difference_text Stacks ≡ codes "Stacks" }

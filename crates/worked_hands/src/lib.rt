@@ -24,7 +24,7 @@ mod traces;
 
 pub use boards::{holdem_hands, omaha_hands, stud_hands};
 pub use cards::{deals, draws};
-pub use difference_texts::told_differences;
+pub use difference_texts::printed_differences;
 pub use draw_hands::{badugi_hands, draws_past_the_deck, folded_draws, single_draws};
 pub use ends::{last_seats, showdowns, shows_before_the_end};
 pub use facts::{agreeing_facts, differing_facts};

@@ -50,7 +50,7 @@ loop-pot-preserved g c =
     let parts = and_parts (may_win (plain net) n) (flag_of shown n) contends_for in
     let range = flagged_inside net.eligible n parts.0 in
     (range.0, omega (arith, range.1, same_seats), parts.1) in
-    let one = same_shares shown.seats test (ranking_by (points_of c.judged.result.0) (points_of c.judged.result.1)) (ranking_of code showdown) (plain net) (amount_of row) (c.judged.ensures test inside) c.in-Some.ensures.shares in
+    let one = same_shares shown.seats test (ranking_by (points_of c.seat_scores.result.0) (points_of c.seat_scores.result.1)) (ranking_of code showdown) (plain net) (amount_of row) (c.seat_scores.ensures test inside) c.in-Some.ensures.shares in
     let pushed = c.push.ensures.shares in
     let rows = shares_in c.loop-pot.shares in
     let new_rows = shares_in c.push.new.self in

@@ -5,12 +5,12 @@ use Rattle.hand_counts.proofs.dealing.hand_of.Goals as goal
 
 pub loop-slot-preserved : goal.loop-slot-preserved
 loop-slot-preserved c =
-    let here = c.place_in_deck.ensures.place in
-    let again = c.place_in_deck-from.ensures.place in
-    let within = c.place_in_deck-from.ensures.within in
-    let from = c.if-place_in_deck-from.false in
+    let here = c.index_in_deck.ensures.index in
+    let again = c.index_in_deck-from.ensures.index in
+    let within = c.index_in_deck-from.ensures.within in
+    let from = c.if-index_in_deck-from.false in
     record {
-      dealt = dealt_push c.loop-slot.from (c.place_in_deck-from.result + 1) (cards_of c.loop-slot.hand) (cards_of c.push.new.self) c.in-Known.card c.loop-slot.invariant.dealt (omega arith) (omega arith) c.push.ensures.entries;
+      dealt = dealt_push c.loop-slot.from (c.index_in_deck-from.result + 1) (cards_of c.loop-slot.hand) (cards_of c.push.new.self) c.in-Known.card c.loop-slot.invariant.dealt (omega arith) (omega arith) c.push.ensures.entries;
       within = omega arith;
     }
 

@@ -3,11 +3,11 @@ use Rattle.std.proofs.Common.{◌≡◌, ℕ, ◌+◌, ◌-◌, ◌++◌, List, 
 use Rattle.std.proofs.lemmas.List.{append_assoc}
 use Rattle.std.specs.List.{list_any}
 use Rattle.chip_ledger.specs.Seat.{seats_of}
-use Rattle.hand_session.specs.declared.session_rows.SessionRow.{SessionRow}
+use Rattle.hand_session.specs.declared.player_sessions.PlayerSession.{PlayerSession}
 use Rattle.hand_session.specs.declared.steps.Step.{Step}
 use Rattle.hand_session.specs.Hands.{Seated, hand_of, seated_in}
 use Rattle.hand_session.specs.Sessions.{is_named, names_among}
-use Rattle.hand_session.specs.Visits.{IsOfHands, row_at, rows_after_seat, steps_of_names, steps_of_seat, with_names}
+use Rattle.hand_session.specs.Visits.{IsOfHands, after_seat, session_at, steps_of_names, steps_of_seat, with_names}
 use Rattle.hand_session.proofs.SeatNames.{any_names}
 use Rattle.hand_session.proofs.RowUpdates.{at_others, rows_more, steps_more}
 use Rattle.hand_session.proofs.SeatBySeat.{seats_more}
@@ -25,8 +25,8 @@ add_seat-requires-clause-within c none =
     let name = (seated_in play (index + 1)).name in
     let missing : list_any (is_named name) before ≡ false =
     subst (λ (seats : List ℕ). list_any (is_named name) (map (seated_in play) seats) ≡ false) (seats_before index) none in
-    let same : row_at c.loop-index.ledger.rows.items name ≡ row_at c.args.ledger.now.rows.items name =
-    ap (λ rows. row_at rows name) c.loop-index.invariant.rows
+    let same : session_at c.loop-index.ledger.rows.items name ≡ session_at c.args.ledger.now.rows.items name =
+    ap (λ rows. session_at rows name) c.loop-index.invariant.rows
     ∙ at_others (hand_of play) c.args.ledger.now.rows.items (names_among before) name (any_names name before ∙ missing) in
     subst (IsOfHands (c.args.number - 1)) (sym same) (c.requires.within name)
 
@@ -47,14 +47,14 @@ loop-index-preserved c =
       names = c.in_ok-add_seat.ensures.names;
       rows =
           c.in_ok-add_seat.ensures.rows
-          ∙ ap (λ (seats : List ℕ). rows_after_seat hand (map (seated_in play) seats) c.loop-index.ledger.rows.items seat.name) (seats_before index)
-          ∙ ap (λ (some : List SessionRow). rows_after_seat hand before some seat.name) c.loop-index.invariant.rows
+          ∙ ap (λ (seats : List ℕ). after_seat hand (map (seated_in play) seats) c.loop-index.ledger.rows.items seat.name) (seats_before index)
+          ∙ ap (λ (some : List PlayerSession). after_seat hand before some seat.name) c.loop-index.invariant.rows
           ∙ rows_more hand rows before seat
           ∙ ap (λ (seats : List Seated). with_names hand rows (names_among seats)) (sym (seats_more play index));
       steps =
           c.in_ok-add_seat.ensures.steps
           ∙ ap (λ (seats : List ℕ). c.loop-index.ledger.steps.items ++ steps_of_seat number hand (map (seated_in play) seats) c.loop-index.ledger.rows.items seat.name) (seats_before index)
-          ∙ ap (λ (some : List SessionRow). c.loop-index.ledger.steps.items ++ steps_of_seat number hand before some seat.name) c.loop-index.invariant.rows
+          ∙ ap (λ (some : List PlayerSession). c.loop-index.ledger.steps.items ++ steps_of_seat number hand before some seat.name) c.loop-index.invariant.rows
           ∙ ap (λ (steps : List Step). steps ++ steps_of_seat number hand before so_far seat.name) c.loop-index.invariant.steps
           ∙ append_assoc c.args.ledger.now.steps.items (steps_of_names number hand rows (names_among before)) (steps_of_seat number hand before so_far seat.name)
           ∙ ap (λ (steps : List Step). c.args.ledger.now.steps.items ++ steps) (steps_more number hand rows before seat)

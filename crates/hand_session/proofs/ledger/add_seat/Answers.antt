@@ -8,19 +8,19 @@ use Rattle.hand_session.specs.declared.visits.Visit.{Visit}
 use Rattle.hand_session.specs.Hands.{Hand, Seated, hand_of, seated_in}
 use Rattle.hand_session.specs.Ledgers.{HasGrown}
 use Rattle.hand_session.specs.Sessions.{is_named}
-use Rattle.hand_session.specs.Visits.{row_at, rows_after_seat, steps_of_seat, visit_in, visit_steps, with_row}
+use Rattle.hand_session.specs.Visits.{after_seat, session_at, steps_of_seat, visit_in, visit_seat, visit_steps}
 use Rattle.hand_session.proofs.ledger.add_seat.Goals as goal
 
 grown : (old new : Ledger) (number : ℕ) (hand : Hand) (before : List Seated) (found name : List ℕ) (visit : Visit) → found ≡ name
     → visit ≡ visit_in found hand → list_any (is_named found) before ≡ false
-    → HasGrown old new (with_row old.rows.items found visit) (visit_steps number (row_at old.rows.items found) visit)
-    → HasGrown old new (rows_after_seat hand before old.rows.items name) (steps_of_seat number hand before old.rows.items name)
+    → HasGrown old new (visit_seat old.rows.items found visit) (visit_steps number (session_at old.rows.items found) visit)
+    → HasGrown old new (after_seat hand before old.rows.items name) (steps_of_seat number hand before old.rows.items name)
 grown old new number hand before found name visit same visit_is missing has =
-    subst (λ (some : List ℕ). HasGrown old new (rows_after_seat hand before old.rows.items some) (steps_of_seat number hand before old.rows.items some)) same
+    subst (λ (some : List ℕ). HasGrown old new (after_seat hand before old.rows.items some) (steps_of_seat number hand before old.rows.items some)) same
     (rw missing (record {
       names = has.names;
-      rows = has.rows ∙ ap (with_row old.rows.items found) visit_is;
-      steps = has.steps ∙ ap (λ (some : Visit). old.steps.items ++ visit_steps number (row_at old.rows.items found) some) visit_is;
+      rows = has.rows ∙ ap (visit_seat old.rows.items found) visit_is;
+      steps = has.steps ∙ ap (λ (some : Visit). old.steps.items ++ visit_steps number (session_at old.rows.items found) some) visit_is;
     }))
 
 pub returns : goal.returns

@@ -10,8 +10,8 @@ use Rattle.ohh_rounds.proofs.play.hole_deals.Goals as goal
 pub loop-index-preserved : goal.loop-index-preserved
 loop-index-preserved c =
     let l = c.loop-index in
-    let told = c.args.told.now in
-    let deal = hole_deal told.setting.hole_cards (map plain_step told.steps.items) in
+    let seen = c.args.seen.now in
+    let deal = hole_deal seen.setting.hole_cards (map plain_step seen.steps.items) in
     ap (map numbered) c.in_ok-push.ensures.pushed ∙ map_push numbered l.script c.hole_deal.result
     ∙ ap (λ front. front ++ numbered c.hole_deal.result ∷ []) l.invariant
     ∙ ap (λ event. map deal (seats_of l.index) ++ event ∷ []) c.hole_deal.ensures

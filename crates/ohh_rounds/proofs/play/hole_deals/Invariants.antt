@@ -7,4 +7,4 @@ use Rattle.ohh_rounds.proofs.play.hole_deals.Given as goal
 
 -- the seats so far are dealt their cards
 abbrev pub invariant-loop-index : goal.invariant-loop-index
-invariant-loop-index l = map numbered l.script ≡ map (hole_deal l.told.setting.hole_cards (map plain_step l.told.steps.items)) (seats_of l.index)
+invariant-loop-index l = map numbered l.script ≡ map (hole_deal l.seen.setting.hole_cards (map plain_step l.seen.steps.items)) (seats_of l.index)

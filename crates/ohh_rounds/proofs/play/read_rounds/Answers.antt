@@ -5,17 +5,17 @@ use Rattle.ohh_rounds.proofs.play.read_rounds.Goals as goal
 
 pub returns-clause-within : goal.returns-clause-within
 returns-clause-within c =
-    let told = c.in_ok-told.told in
-    let steps = map plain_step told.steps.items in
+    let seen = c.in_ok-seen.seen in
+    let steps = map plain_step seen.steps.items in
     let script = c.in_ok-script.script in
     let is = c.in_ok-script.ensures.script in
     record {
-      moves = omega (arith, script_moves told.setting.table.stacks.seats told.setting.hole_cards steps script is, told.moves_are, told.few_moves);
-      others = omega (arith, script_others told.setting.table.stacks.seats told.setting.hole_cards steps script is, told.others_are, told.few_others);
+      moves = omega (arith, script_moves seen.setting.table.stacks.seats seen.setting.hole_cards steps script is, seen.moves_are, seen.few_moves);
+      others = omega (arith, script_others seen.setting.table.stacks.seats seen.setting.hole_cards steps script is, seen.others_are, seen.few_others);
     }
 
 pub returns-clause-moves : goal.returns-clause-moves
 returns-clause-moves c =
-    let told = c.in_ok-told.told in
-    let steps = map plain_step told.steps.items in
-    omega (arith, script_moves told.setting.table.stacks.seats told.setting.hole_cards steps c.in_ok-script.script c.in_ok-script.ensures.script, told.moves_are)
+    let seen = c.in_ok-seen.seen in
+    let steps = map plain_step seen.steps.items in
+    omega (arith, script_moves seen.setting.table.stacks.seats seen.setting.hole_cards steps c.in_ok-script.script c.in_ok-script.ensures.script, seen.moves_are)

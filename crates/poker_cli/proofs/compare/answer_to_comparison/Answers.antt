@@ -5,7 +5,7 @@ use Rattle.hand_records.specs.declared.trace.Play.{Play}
 use Rattle.poker_cli.specs.Compare.{IsComparedWith}
 use Rattle.poker_cli.specs.AnswerParts as parts
 use Rattle.poker_cli.specs.Compare as in_compare
-use Rattle.poker_cli.specs.Told.{answer_told}
+use Rattle.poker_cli.specs.FaultAnswers.{answer_said}
 use Rattle.poker_cli.proofs.Answering.{answer_unplayed}
 use Rattle.poker_cli.proofs.compare.answer_to_comparison.Goals as goal
 
@@ -13,14 +13,14 @@ pub returns-in-Ok : goal.returns-in-Ok
 returns-in-Ok c =
     let by = c.args.by.now in
     IfOk-weaker c.answer_beside.result _ _
-    (λ answer is. in_compare.InputRead c.requires (answer_told answer)
-    (parts.Played c.in-Ok.plays.items c.in-Ok.ensures.plays (answer_told answer)
-    (subst (λ (plays : List Play). IsComparedWith by.other by.notes c.args.file.now plays (answer_told answer)) c.deref.ensures.value is)))
+    (λ answer is. in_compare.InputRead c.requires (answer_said answer)
+    (parts.Played c.in-Ok.plays.items c.in-Ok.ensures.plays (answer_said answer)
+    (subst (λ (plays : List Play). IsComparedWith by.other by.notes c.args.file.now plays (answer_said answer)) c.deref.ensures.value is)))
     c.answer_beside.ensures
 
 pub returns-in-Err : goal.returns-in-Err
 returns-in-Err c =
     IfOk-weaker c.answer_to_fault.result _ _
-    (λ answer told. in_compare.InputRead c.requires (answer_told answer)
-    (answer_unplayed _ _ _ (answer_told answer) c.in-Err.fault c.in-Err.ensures.refused told))
+    (λ answer shown. in_compare.InputRead c.requires (answer_said answer)
+    (answer_unplayed _ _ _ (answer_said answer) c.in-Err.fault c.in-Err.ensures.refused shown))
     c.answer_to_fault.ensures

@@ -14,18 +14,18 @@ use Rattle.poker_cli.proofs.FilesTold.{of_file}
 use Rattle.poker_cli.proofs.compared_files.comparison_of.Goals as goal
 
 -- under the game that a file gives
-under_game : (told : Option FilesByName) (name : List ℕ) (from other : NotationName) (notes : Bool) (game : Game) (by : Comparison)
-    → by ≡ comparison_under game from other notes → OfFile told name (λ file. GivesGame file game)
-    → OfGameFile told (SidesUnder name from other) (λ file. IsComparisonOf file (SidesUnder name from other) notes by)
-under_game told name from other notes game by same gives =
-    of_file told name (λ file. GivesGame file game) (λ file. IsComparisonOf file (SidesUnder name from other) notes by)
+under_game : (shown : Option FilesByName) (name : List ℕ) (from other : NotationName) (notes : Bool) (game : Game) (by : Comparison)
+    → by ≡ comparison_under game from other notes → OfFile shown name (λ file. GivesGame file game)
+    → OfGameFile shown (SidesUnder name from other) (λ file. IsComparisonOf file (SidesUnder name from other) notes by)
+under_game shown name from other notes game by same gives =
+    of_file shown name (λ file. GivesGame file game) (λ file. IsComparisonOf file (SidesUnder name from other) notes by)
     (λ file given. record { game = game; gives = given; same = same }) gives
 
 pub returns-in_ok-game-in-Under-clause-comparison : goal.returns-in_ok-game-in-Under-clause-comparison
 returns-in_ok-game-in-Under-clause-comparison g c =
-    let told = g.H.Shelf.files c.args.shelf.now in
+    let shown = g.H.Shelf.files c.args.shelf.now in
     subst
-    (λ (sides : Sides). OfGameFile told (sides_in sides) (λ (game : Option (List ℕ)). IsComparisonOf game (sides_in sides) c.args.notes c.comparison_under.result))
+    (λ (sides : Sides). OfGameFile shown (sides_in sides) (λ (game : Option (List ℕ)). IsComparisonOf game (sides_in sides) c.args.notes c.comparison_under.result))
     (sym c.in-Under.is)
-    (under_game told c.in-Under.game.now c.in-Under.from c.in-Under.other c.args.notes c.in_ok-game-in-Under.game c.comparison_under.result
+    (under_game shown c.in-Under.game.now c.in-Under.from c.in-Under.other c.args.notes c.in_ok-game-in-Under.game c.comparison_under.result
     c.comparison_under.ensures c.in_ok-game-in-Under.ensures.game)

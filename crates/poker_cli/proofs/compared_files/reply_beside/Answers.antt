@@ -3,7 +3,7 @@ use Rattle.std.proofs.Common.{IfOk, List, Option, ℕ, subst}
 use Rattle.poker_cli.specs.Compare.{IsComparison}
 use Rattle.poker_cli.specs.ComparedFiles.{HasNoFile}
 use Rattle.poker_cli.specs.Run.{OfBytes, OfFile}
-use Rattle.poker_cli.specs.Told.{answer_told}
+use Rattle.poker_cli.specs.FaultAnswers.{answer_said}
 use Rattle.poker_cli.specs.declared.compared_files.NoFileError.{NoFileError}
 use Rattle.poker_cli.proofs.OwnStatus.{of_both}
 use Rattle.poker_cli.proofs.Replied.{keeps_read}
@@ -14,14 +14,14 @@ pub returns-in-Ok-clause-answer : goal.returns-in-Ok-clause-answer
 returns-in-Ok-clause-answer g c =
     let left = g.S.Source.left c.args.input.now in
     beside_reply (g.H.Shelf.files c.args.shelf.now) left c.args.name.now c.args.by.now c.in-Ok.file.items c.reply_to_both.result c.in-Ok.ensures.file
-    (subst (λ (file : List ℕ). IfOk c.reply_to_both.result (λ answer. OfBytes left (λ bytes. IsComparison c.args.by.now file bytes (answer_told answer))))
+    (subst (λ (file : List ℕ). IfOk c.reply_to_both.result (λ answer. OfBytes left (λ bytes. IsComparison c.args.by.now file bytes (answer_said answer))))
     c.deref.ensures.value c.reply_to_both.ensures.answer)
 
 pub returns-in_ok-answer_to_long_file-in-Err-TooLong-clause-answer : goal.returns-in_ok-answer_to_long_file-in-Err-TooLong-clause-answer
 returns-in_ok-answer_to_long_file-in-Err-TooLong-clause-answer g c =
-    let told = g.H.Shelf.files c.args.shelf.now in
-    long_reply told (g.S.Source.left c.args.input.now) c.args.name.now c.args.by.now (answer_told c.in_ok-answer_to_long_file-in-Err-TooLong.field-0)
-    (subst (λ (reason : NoFileError). OfFile told c.args.name.now (λ (file : Option (List ℕ)). HasNoFile file reason)) c.in-Err-TooLong.field-0-is c.in-Err-TooLong.ensures.none)
+    let shown = g.H.Shelf.files c.args.shelf.now in
+    long_reply shown (g.S.Source.left c.args.input.now) c.args.name.now c.args.by.now (answer_said c.in_ok-answer_to_long_file-in-Err-TooLong.field-0)
+    (subst (λ (reason : NoFileError). OfFile shown c.args.name.now (λ (file : Option (List ℕ)). HasNoFile file reason)) c.in-Err-TooLong.field-0-is c.in-Err-TooLong.ensures.none)
     c.in_ok-answer_to_long_file-in-Err-TooLong.ensures
 
 pub returns-in-Ok-clause-kept : goal.returns-in-Ok-clause-kept

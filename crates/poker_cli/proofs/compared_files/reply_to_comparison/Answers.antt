@@ -4,9 +4,9 @@ use Rattle.command_words.specs.Requests.{sides_in}
 use Rattle.poker_cli.specs.Compare.{IsComparedTo}
 use Rattle.poker_cli.specs.Files.{FilesByName}
 use Rattle.poker_cli.specs.ComparedFiles.{HasNoGameFor}
-use Rattle.poker_cli.specs.GameFiles.{IsGameFileErrorTold}
+use Rattle.poker_cli.specs.GameFiles.{IsGameFileErrorAnswer}
 use Rattle.poker_cli.specs.Run.{IsNotThere, OfBytes, OfFile, OfGameFile}
-use Rattle.poker_cli.specs.Told.{answer_told}
+use Rattle.poker_cli.specs.FaultAnswers.{answer_said}
 use Rattle.poker_cli.specs.declared.game_files.GameFileError.{GameFileError}
 use Rattle.poker_cli.specs.declared.game_files.NoGameError.{NoGameError}
 use Rattle.poker_cli.proofs.Replied.{keeps_later, none_beside}
@@ -15,26 +15,26 @@ use Rattle.poker_cli.proofs.compared_files.reply_to_comparison.Goals as goal
 
 pub returns-in-Ok-clause-answer : goal.returns-in-Ok-clause-answer
 returns-in-Ok-clause-answer g c =
-    let told = g.H.Shelf.files c.args.shelf.now in
+    let shown = g.H.Shelf.files c.args.shelf.now in
     let left = g.S.Source.left c.args.input.now in
-    compared_reply told left (sides_in c.args.sides) c.args.name.now c.args.notes c.in-Ok.by c.reply_beside.result c.in-Ok.ensures.comparison
-    (subst (λ (shelf : Option FilesByName). IfOk c.reply_beside.result (λ answer. OfFile shelf c.args.name.now (λ file. OfBytes left (λ bytes. IsComparedTo c.in-Ok.by file bytes (answer_told answer)))))
+    compared_reply shown left (sides_in c.args.sides) c.args.name.now c.args.notes c.in-Ok.by c.reply_beside.result c.in-Ok.ensures.comparison
+    (subst (λ (shelf : Option FilesByName). IfOk c.reply_beside.result (λ answer. OfFile shelf c.args.name.now (λ file. OfBytes left (λ bytes. IsComparedTo c.in-Ok.by file bytes (answer_said answer)))))
     c.in-Ok.ensures.unchanged c.reply_beside.ensures.answer)
 
 pub returns-in-Ok-clause-without_file : goal.returns-in-Ok-clause-without_file
 returns-in-Ok-clause-without_file g c =
-    let told = g.H.Shelf.files c.args.shelf.now in
-    where_lacking (c.reply_beside.new.input ≡ c.args.input.now) told (sides_in c.args.sides) c.args.name.now c.args.notes c.in-Ok.by c.in-Ok.ensures.comparison
+    let shown = g.H.Shelf.files c.args.shelf.now in
+    where_lacking (c.reply_beside.new.input ≡ c.args.input.now) shown (sides_in c.args.sides) c.args.name.now c.args.notes c.in-Ok.by c.in-Ok.ensures.comparison
     (subst (λ (shelf : Option FilesByName). IfSome shelf (λ files. IsNotThere (files c.args.name.now) → c.reply_beside.new.input ≡ c.args.input.now)) c.in-Ok.ensures.unchanged
     c.reply_beside.ensures.without_file)
 
 pub returns-in_ok-game_file_answer-in-Err-Lacking-clause-answer : goal.returns-in_ok-game_file_answer-in-Err-Lacking-clause-answer
 returns-in_ok-game_file_answer-in-Err-Lacking-clause-answer g c =
-    let told = g.H.Shelf.files c.args.shelf.now in
-    compared_game_file_error told (g.S.Source.left c.args.input.now) (sides_in c.args.sides) c.args.name.now c.args.notes c.in-Err-Lacking.lack
-    (answer_told c.in_ok-game_file_answer-in-Err-Lacking.field-0)
-    (subst (λ (reason : NoGameError). OfGameFile told (sides_in c.args.sides) (λ (game : Option (List ℕ)). HasNoGameFor game (sides_in c.args.sides) reason)) c.in-Err-Lacking.field-0-is c.in-Err-Lacking.ensures.none)
-    (subst (λ (lack : GameFileError). IsGameFileErrorTold lack (answer_told c.in_ok-game_file_answer-in-Err-Lacking.field-0)) c.in-Err-Lacking.lack-is c.in_ok-game_file_answer-in-Err-Lacking.ensures)
+    let shown = g.H.Shelf.files c.args.shelf.now in
+    compared_game_file_error shown (g.S.Source.left c.args.input.now) (sides_in c.args.sides) c.args.name.now c.args.notes c.in-Err-Lacking.lack
+    (answer_said c.in_ok-game_file_answer-in-Err-Lacking.field-0)
+    (subst (λ (reason : NoGameError). OfGameFile shown (sides_in c.args.sides) (λ (game : Option (List ℕ)). HasNoGameFor game (sides_in c.args.sides) reason)) c.in-Err-Lacking.field-0-is c.in-Err-Lacking.ensures.none)
+    (subst (λ (lack : GameFileError). IsGameFileErrorAnswer lack (answer_said c.in_ok-game_file_answer-in-Err-Lacking.field-0)) c.in-Err-Lacking.lack-is c.in_ok-game_file_answer-in-Err-Lacking.ensures)
 
 pub returns-in-Ok-clause-asks : goal.returns-in-Ok-clause-asks
 returns-in-Ok-clause-asks g c =
@@ -43,9 +43,9 @@ returns-in-Ok-clause-asks g c =
 
 pub returns-in-Ok-clause-none : goal.returns-in-Ok-clause-none
 returns-in-Ok-clause-none g c =
-    let told = g.H.Shelf.files c.args.shelf.now in
+    let shown = g.H.Shelf.files c.args.shelf.now in
     let beside = c.reply_beside.ensures in
-    none_beside (sides_in c.args.sides) c.args.name.now c.args.notes c.in-Ok.by (g.S.Source.left c.args.input.now) told c.in-Ok.ensures.comparison c.reply_beside.result
+    none_beside (sides_in c.args.sides) c.args.name.now c.args.notes c.in-Ok.by (g.S.Source.left c.args.input.now) shown c.in-Ok.ensures.comparison c.reply_beside.result
     (λ fault. subst (λ (shelf : Option FilesByName). OfFile shelf c.args.name.now (λ file. IsNotThere file → ⊥)) c.in-Ok.ensures.unchanged (beside.there fault))
     beside.of_file
     (λ missing. subst (λ (shelf : Option FilesByName). OfFile shelf c.args.name.now (λ file. file ≡ None)) c.in-Ok.ensures.unchanged (beside.missing missing))
@@ -57,7 +57,7 @@ returns-in-Ok-clause-kept g c =
 
 pub returns-in-Err-Missing-clause-none : goal.returns-in-Err-Missing-clause-none
 returns-in-Err-Missing-clause-none g c =
-    let told = g.H.Shelf.files c.args.shelf.now in
-    no_game_file told (g.S.Source.left c.args.input.now) (sides_in c.args.sides) c.args.name.now c.args.notes
-    (subst (λ (reason : NoGameError). OfGameFile told (sides_in c.args.sides) (λ (game : Option (List ℕ)). HasNoGameFor game (sides_in c.args.sides) reason))
+    let shown = g.H.Shelf.files c.args.shelf.now in
+    no_game_file shown (g.S.Source.left c.args.input.now) (sides_in c.args.sides) c.args.name.now c.args.notes
+    (subst (λ (reason : NoGameError). OfGameFile shown (sides_in c.args.sides) (λ (game : Option (List ℕ)). HasNoGameFor game (sides_in c.args.sides) reason))
     c.in-Err-Missing.field-0-is c.in-Err-Missing.ensures.none)

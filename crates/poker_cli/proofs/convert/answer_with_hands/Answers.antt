@@ -2,15 +2,15 @@
 use Rattle.std.proofs.Common.{ℕ, Global}
 use Rattle.std.specs.Prelude.{Vec}
 use Rattle.std.proofs.lemmas.Result.{IfOk-weaker}
-use Rattle.poker_cli.specs.Told.{answer_told}
+use Rattle.poker_cli.specs.FaultAnswers.{answer_said}
 use Rattle.poker_cli.proofs.Answering.{answer_converted, answer_unconverted}
 use Rattle.poker_cli.proofs.convert.answer_with_hands.Goals as goal
 
 pub returns-in-Ok : goal.returns-in-Ok
 returns-in-Ok c =
-    answer_converted _ _ _ _ _ (answer_told c.done.result) c.in-Ok.output.items c.in-Ok.ensures c.done.ensures
+    answer_converted _ _ _ _ _ (answer_said c.done.result) c.in-Ok.output.items c.in-Ok.ensures c.done.ensures
 
 pub returns-in-Err : goal.returns-in-Err
 returns-in-Err c =
     IfOk-weaker c.answer_to_fault.result _ _
-    (λ answer told. answer_unconverted _ _ _ _ _ (answer_told answer) {X = Vec ℕ Global} (λ output. output.items) c.in-Err.fault c.in-Err.ensures told) c.answer_to_fault.ensures
+    (λ answer shown. answer_unconverted _ _ _ _ _ (answer_said answer) {X = Vec ℕ Global} (λ output. output.items) c.in-Err.fault c.in-Err.ensures shown) c.answer_to_fault.ensures

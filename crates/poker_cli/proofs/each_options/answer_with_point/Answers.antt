@@ -14,7 +14,7 @@ returns-then-count-place c =
     let records = c.args.records.now in
     let beyond : length records ≤ c.saturating_sub-place.result = omega (arith, c.if-count-place.true, c.len-count.ensures.count) in
     IfOk-weaker c.no_hand.result _ _
-    (λ answer told. subst (IsPoint c.args.hand c.args.events records) (sym (told ∙ ap (no_hand c.args.hand) c.len-count.ensures.count))
+    (λ answer shown. subst (IsPoint c.args.hand c.args.events records) (sym (shown ∙ ap (no_hand c.args.hand) c.len-count.ensures.count))
     (each.NoHandThere (not_numbered records c.args.hand c.saturating_sub-place.result c.saturating_sub-place.ensures beyond)))
     c.no_hand.ensures
 
@@ -25,7 +25,7 @@ returns-then-part-events c =
     let here = numbered records c.args.hand c.saturating_sub-place.result hand c.saturating_sub-place.ensures c.get-sound.ensures in
     let past : c.in_ok-part.part.events < c.args.events = omega (arith, c.if-part-events.true) in
     IfOk-weaker c.no_event.result _ _
-    (λ answer told. subst (IsPoint c.args.hand c.args.events records) (sym told)
+    (λ answer shown. subst (IsPoint c.args.hand c.args.events records) (sym shown)
     (each.PastLegal hand here c.in_ok-part.part.events c.in_ok-part.ensures.beginning past))
     c.no_event.ensures
 

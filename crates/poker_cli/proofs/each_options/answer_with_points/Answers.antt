@@ -12,7 +12,7 @@ returns-then-count-place c =
     let records = c.args.records.now in
     let beyond : length records ≤ c.saturating_sub-place.result = omega (arith, c.if-count-place.true, c.len-count.ensures.count) in
     IfOk-weaker c.no_hand.result _ _
-    (λ answer told. subst (IsEveryPoint c.args.hand records) (sym (told ∙ ap (no_hand c.args.hand) c.len-count.ensures.count))
+    (λ answer shown. subst (IsEveryPoint c.args.hand records) (sym (shown ∙ ap (no_hand c.args.hand) c.len-count.ensures.count))
     (each.NoSuchHand (not_numbered records c.args.hand c.saturating_sub-place.result c.saturating_sub-place.ensures beyond)))
     c.no_hand.ensures
 

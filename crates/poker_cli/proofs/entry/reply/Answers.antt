@@ -5,8 +5,8 @@ use Rattle.command_words.specs.Requests.{request_in}
 use Rattle.command_words.specs.declared.request.Request.{Request}
 use Rattle.poker_cli.specs.Answer.{IsAnswerIn}
 use Rattle.poker_cli.specs.Replied.{HasNoAnswer}
-use Rattle.poker_cli.specs.Run.{WhereTold}
-use Rattle.poker_cli.specs.Told.{answer_told}
+use Rattle.poker_cli.specs.Run.{WhereShown}
+use Rattle.poker_cli.specs.FaultAnswers.{answer_said}
 use Rattle.poker_cli.proofs.OwnStatus.{of_way}
 use Rattle.poker_cli.proofs.Replied.{keeps_read, none_of_plain}
 use Rattle.poker_cli.proofs.entry.reply.Goals as goal
@@ -14,8 +14,8 @@ use Rattle.poker_cli.proofs.entry.reply.Goals as goal
 pub returns-in-Compare-clause-answer : goal.returns-in-Compare-clause-answer
 returns-in-Compare-clause-answer g c =
     subst
-    (λ (request : Request). IfOk c.reply_to_comparison.result (λ answer. WhereTold (request_in request) (g.S.Source.left c.args.input.now) (g.H.Shelf.files c.args.shelf.now)
-    (λ files bytes. IsAnswerIn (request_in request) files bytes (answer_told answer))))
+    (λ (request : Request). IfOk c.reply_to_comparison.result (λ answer. WhereShown (request_in request) (g.S.Source.left c.args.input.now) (g.H.Shelf.files c.args.shelf.now)
+    (λ files bytes. IsAnswerIn (request_in request) files bytes (answer_said answer))))
     (sym c.in-Compare.is) c.reply_to_comparison.ensures.answer
 
 pub returns-in-Plain-clause-kept : goal.returns-in-Plain-clause-kept

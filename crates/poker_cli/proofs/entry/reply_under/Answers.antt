@@ -4,9 +4,9 @@ use Rattle.std.proofs.Common.{ℕ, List, Option, subst, IfOk}
 use Rattle.std.proofs.lemmas.Result.{IfErr-weaker}
 use Rattle.poker_cli.specs.Answer.{IsAnswerBy}
 use Rattle.poker_cli.specs.declared.task.Job.{Job}
-use Rattle.poker_cli.specs.GameFiles.{HasNoGame, IsGameFileErrorTold}
+use Rattle.poker_cli.specs.GameFiles.{HasNoGame, IsGameFileErrorAnswer}
 use Rattle.poker_cli.specs.Run.{OfBytes, OfFile}
-use Rattle.poker_cli.specs.Told.{answer_told}
+use Rattle.poker_cli.specs.FaultAnswers.{answer_said}
 use Rattle.poker_cli.specs.declared.game_files.GameFileError.{GameFileError}
 use Rattle.poker_cli.specs.declared.game_files.NoGameError.{NoGameError}
 use Rattle.poker_cli.proofs.Answering.{game_reply, game_file_error_reply}
@@ -21,15 +21,15 @@ returns-in-Ok-clause-answer g c =
     let left = g.S.Source.left c.args.input.now in
     game_reply (g.H.Shelf.files c.args.shelf.now) left c.args.name.now c.args.logs c.in-Ok.game
     c.reply_with.result c.in-Ok.ensures.game
-    (subst (λ (by : Job). IfOk c.reply_with.result (λ answer. OfBytes left (λ bytes. IsAnswerBy by bytes (answer_told answer)))) c.job_under.ensures c.reply_with.ensures.answer)
+    (subst (λ (by : Job). IfOk c.reply_with.result (λ answer. OfBytes left (λ bytes. IsAnswerBy by bytes (answer_said answer)))) c.job_under.ensures c.reply_with.ensures.answer)
 
 pub returns-in_ok-game_file_answer-in-Err-Lacking-clause-answer : goal.returns-in_ok-game_file_answer-in-Err-Lacking-clause-answer
 returns-in_ok-game_file_answer-in-Err-Lacking-clause-answer g c =
-    let told = g.H.Shelf.files c.args.shelf.now in
-    game_file_error_reply told (g.S.Source.left c.args.input.now) c.args.name.now c.args.logs c.in-Err-Lacking.lack
-    (answer_told c.in_ok-game_file_answer-in-Err-Lacking.field-0)
-    (subst (λ (reason : NoGameError). OfFile told c.args.name.now (λ (file : Option (List ℕ)). HasNoGame file reason)) c.in-Err-Lacking.field-0-is c.in-Err-Lacking.ensures.none)
-    (subst (λ (lack : GameFileError). IsGameFileErrorTold lack (answer_told c.in_ok-game_file_answer-in-Err-Lacking.field-0)) c.in-Err-Lacking.lack-is c.in_ok-game_file_answer-in-Err-Lacking.ensures)
+    let shown = g.H.Shelf.files c.args.shelf.now in
+    game_file_error_reply shown (g.S.Source.left c.args.input.now) c.args.name.now c.args.logs c.in-Err-Lacking.lack
+    (answer_said c.in_ok-game_file_answer-in-Err-Lacking.field-0)
+    (subst (λ (reason : NoGameError). OfFile shown c.args.name.now (λ (file : Option (List ℕ)). HasNoGame file reason)) c.in-Err-Lacking.field-0-is c.in-Err-Lacking.ensures.none)
+    (subst (λ (lack : GameFileError). IsGameFileErrorAnswer lack (answer_said c.in_ok-game_file_answer-in-Err-Lacking.field-0)) c.in-Err-Lacking.lack-is c.in_ok-game_file_answer-in-Err-Lacking.ensures)
 
 pub returns-in-Ok-clause-without_game : goal.returns-in-Ok-clause-without_game
 returns-in-Ok-clause-without_game g c =
@@ -49,6 +49,6 @@ returns-in-Ok-clause-kept g c =
 
 pub returns-in-Err-Missing-clause-none : goal.returns-in-Err-Missing-clause-none
 returns-in-Err-Missing-clause-none g c =
-    let told = g.H.Shelf.files c.args.shelf.now in
-    game_not_there told (g.S.Source.left c.args.input.now) c.args.name.now c.args.logs
-    (subst (λ (reason : NoGameError). OfFile told c.args.name.now (λ (file : Option (List ℕ)). HasNoGame file reason)) c.in-Err-Missing.field-0-is c.in-Err-Missing.ensures.none)
+    let shown = g.H.Shelf.files c.args.shelf.now in
+    game_not_there shown (g.S.Source.left c.args.input.now) c.args.name.now c.args.logs
+    (subst (λ (reason : NoGameError). OfFile shown c.args.name.now (λ (file : Option (List ℕ)). HasNoGame file reason)) c.in-Err-Missing.field-0-is c.in-Err-Missing.ensures.none)

@@ -13,8 +13,8 @@ pub returns-in-Err-clause-ends : goal.returns-in-Err-clause-ends
 returns-in-Err-clause-ends g c =
     let said = request_said (map string_bytes c.args.words.now) in
     let left = g.S.Source.left c.args.input.now in
-    let told = g.H.Shelf.files c.args.shelf.now in
-    ends_told said left told _ _ statuses.Memory _ (ends_unread said left told _ _ _ c.in-Err.memory.refused)
+    let shown = g.H.Shelf.files c.args.shelf.now in
+    ends_told said left shown _ _ statuses.Memory _ (ends_unread said left shown _ _ _ c.in-Err.memory.refused)
     (record { unwritten = λ nothing. refl; failed = λ is. cc; quiet = λ is. cc; fixed = c.print_line-in-Err.ensures })
 
 pub returns-in-Err-clause-without_file : goal.returns-in-Err-clause-without_file

@@ -3,14 +3,14 @@ use Rattle.std.proofs.Common.{rules, subst}
 use Rattle.command_words.specs.Requests.{request_in}
 use Rattle.host_io.specs.Faults.{Rose}
 use Rattle.poker_cli.specs.Replied.{HasNoAnswer}
-use Rattle.poker_cli.specs.Told.{answer_told}
+use Rattle.poker_cli.specs.FaultAnswers.{answer_said}
 use Rattle.poker_cli.proofs.Answering.{ends_file_missing, ends_game_missing, ends_memory, ends_shelf_fault, ends_unread_input, ends_where_told}
 use Rattle.poker_cli.proofs.entry.run_request.Goals as goal
 
 pub returns-in-Ok-clause-ends : goal.returns-in-Ok-clause-ends
 returns-in-Ok-clause-ends g c =
     ends_where_told (request_in c.args.request) (g.S.Source.left c.args.input.now) (g.H.Shelf.files c.args.shelf.now) _ _
-    (answer_told c.in-Ok.answer) c.deliver.result _ c.in-Ok.ensures.answer c.in-Ok.ensures.kept.0 c.deliver.ensures.status c.deliver.ensures.written
+    (answer_said c.in-Ok.answer) c.deliver.result _ c.in-Ok.ensures.answer c.in-Ok.ensures.kept.0 c.deliver.ensures.status c.deliver.ensures.written
     c.deliver.ensures.line c.deliver.ensures.no_output
 
 pub returns-in-Err-ReadFault-clause-tells : goal.returns-in-Err-ReadFault-clause-tells

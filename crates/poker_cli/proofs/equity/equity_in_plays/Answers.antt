@@ -15,7 +15,7 @@ returns-in_default c =
     let plays = c.args.plays.now in
     let beyond : length plays ≤ c.saturating_sub.result = search rules in
     IfOk-weaker c.no_hand.result _ _
-    (λ answer told. subst (IsEquityAt c.args.hand c.args.street plays) (sym told)
+    (λ answer shown. subst (IsEquityAt c.args.hand c.args.street plays) (sym shown)
     (in_equity.NoneNumbered (not_found plays c.args.hand c.saturating_sub.result c.saturating_sub.ensures beyond)))
     c.no_hand.ensures
 
@@ -36,7 +36,7 @@ returns-in-Err-NoStreet c =
     let here = found plays c.args.hand c.saturating_sub.result play c.saturating_sub.ensures lookup.3.0 lookup.1 in
     let lacks = subst (λ (why : NoEquity). HasNoEquity play.trace c.args.street why) c.in-Err-NoStreet.field-0-is c.in-Err-NoStreet.ensures.refused in
     IfOk-weaker c.no_street.result _ _
-    (λ answer told. subst (IsEquityAt c.args.hand c.args.street plays) (sym told) (in_equity.NoBoard play here lacks))
+    (λ answer shown. subst (IsEquityAt c.args.hand c.args.street plays) (sym shown) (in_equity.NoBoard play here lacks))
     c.no_street.ensures
 
 pub returns-in-Err-UnknownCards : goal.returns-in-Err-UnknownCards
@@ -47,5 +47,5 @@ returns-in-Err-UnknownCards c =
     let here = found plays c.args.hand c.saturating_sub.result play c.saturating_sub.ensures lookup.3.0 lookup.1 in
     let lacks = subst (λ (why : NoEquity). HasNoEquity play.trace c.args.street why) c.in-Err-UnknownCards.field-0-is c.in-Err-UnknownCards.ensures.refused in
     IfOk-weaker c.no_cards.result _ _
-    (λ answer told. subst (IsEquityAt c.args.hand c.args.street plays) (sym (told ∙ ap (no_cards c.args.hand) (ap (λ (seat : Seat). seat.number) c.in-Err-UnknownCards.seat-is))) (in_equity.NoCards play here c.in-Err-UnknownCards.seat lacks))
+    (λ answer shown. subst (IsEquityAt c.args.hand c.args.street plays) (sym (shown ∙ ap (no_cards c.args.hand) (ap (λ (seat : Seat). seat.number) c.in-Err-UnknownCards.seat-is))) (in_equity.NoCards play here c.in-Err-UnknownCards.seat lacks))
     c.no_cards.ensures

@@ -4,8 +4,8 @@ use Rattle.std.proofs.lemmas.Result.{IfOk-weaker}
 use Rattle.poker_cli.specs.AnswerParts.{done}
 use Rattle.poker_cli.specs.Judge as answers
 use Rattle.convert_core.specs.Formats.{HaveFault, SayRecords, first_lines}
-use Rattle.poker_cli.specs.Told.{answer_told}
-use Rattle.poker_cli.specs.Judge.{IsJudgement, if_asked, judged_said}
+use Rattle.poker_cli.specs.FaultAnswers.{answer_said}
+use Rattle.poker_cli.specs.Judge.{IsJudgement, if_asked, verdicts_said}
 use Rattle.poker_cli.proofs.Answering.{not_judged}
 use Rattle.poker_cli.proofs.judge.answer_with_verdicts.Goals as goal
 
@@ -16,10 +16,10 @@ returns-in_ok-text-in-Ok c =
     (IsJudgement (SayRecords c.args.from.now c.args.bytes.now) (HaveFault c.args.from.now c.args.bytes.now)
     (if_asked c.args.asked (first_lines c.args.from.now c.args.bytes.now)))
     (sym (c.done_with.ensures
-    ∙ ap done (judged.said ∙ ap (λ (lines : List ℕ). judged_said lines judged.verdicts) c.in_ok-lines-in-Ok.ensures)))
+    ∙ ap done (judged.said ∙ ap (λ (lines : List ℕ). verdicts_said lines judged.verdicts) c.in_ok-lines-in-Ok.ensures)))
     (answers.Judged c.in-Ok.records c.in-Ok.ensures.said judged.verdicts judged.are)
 
 pub returns-in-Err : goal.returns-in-Err
 returns-in-Err c =
     IfOk-weaker c.answer_to_fault.result _ _
-    (λ answer told. not_judged _ _ _ (answer_told answer) c.in-Err.fault c.in-Err.ensures.refused told) c.answer_to_fault.ensures
+    (λ answer shown. not_judged _ _ _ (answer_said answer) c.in-Err.fault c.in-Err.ensures.refused shown) c.answer_to_fault.ensures

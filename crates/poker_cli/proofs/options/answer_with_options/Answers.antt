@@ -4,18 +4,18 @@ use Rattle.std.proofs.lemmas.Result.{IfOk-weaker}
 use Rattle.hand_records.specs.declared.trace.Play.{Play}
 use Rattle.poker_cli.specs.AnswerParts as answers
 use Rattle.poker_cli.specs.Options.{AreOptionsAt}
-use Rattle.poker_cli.specs.Told.{answer_told}
+use Rattle.poker_cli.specs.FaultAnswers.{answer_said}
 use Rattle.poker_cli.proofs.Answering.{answer_unplayed}
 use Rattle.poker_cli.proofs.options.answer_with_options.Goals as goal
 
 pub returns-in-Ok : goal.returns-in-Ok
 returns-in-Ok c =
     IfOk-weaker c.options_in_plays.result _ _
-    (λ answer is. answers.Played c.in-Ok.plays.items c.in-Ok.ensures.plays (answer_told answer)
-    (subst (λ (plays : List Play). AreOptionsAt c.args.hand c.args.events plays (answer_told answer)) c.deref.ensures.value is))
+    (λ answer is. answers.Played c.in-Ok.plays.items c.in-Ok.ensures.plays (answer_said answer)
+    (subst (λ (plays : List Play). AreOptionsAt c.args.hand c.args.events plays (answer_said answer)) c.deref.ensures.value is))
     c.options_in_plays.ensures
 
 pub returns-in-Err : goal.returns-in-Err
 returns-in-Err c =
     IfOk-weaker c.answer_to_fault.result _ _
-    (λ answer told. answer_unplayed _ _ _ (answer_told answer) c.in-Err.fault c.in-Err.ensures.refused told) c.answer_to_fault.ensures
+    (λ answer shown. answer_unplayed _ _ _ (answer_said answer) c.in-Err.fault c.in-Err.ensures.refused shown) c.answer_to_fault.ensures

@@ -12,7 +12,7 @@ returns-in_default c =
     let plays = c.args.plays.now in
     let beyond : length plays ≤ c.saturating_sub.result = search rules in
     IfOk-weaker c.no_hand.result _ _
-    (λ answer told. subst (AreOptionsAt c.args.hand c.args.events plays) (sym told)
+    (λ answer shown. subst (AreOptionsAt c.args.hand c.args.events plays) (sym shown)
     (in_options.NoHand (not_found plays c.args.hand c.saturating_sub.result c.saturating_sub.ensures beyond)))
     c.no_hand.ensures
 
@@ -24,7 +24,7 @@ returns-then-all-events c =
     let here = found plays c.args.hand c.saturating_sub.result play c.saturating_sub.ensures lookup.3.0 lookup.1 in
     let fewer : length play.hand.script < c.args.events = omega (arith, c.if-all-events.true, c.len-all.ensures) in
     IfOk-weaker c.no_event.result _ _
-    (λ answer told. subst (AreOptionsAt c.args.hand c.args.events plays) (sym (told ∙ ap (no_event c.args.hand c.args.events) c.len-all.ensures))
+    (λ answer shown. subst (AreOptionsAt c.args.hand c.args.events plays) (sym (shown ∙ ap (no_event c.args.hand c.args.events) c.len-all.ensures))
     (in_options.NoEvent play here fewer))
     c.no_event.ensures
 

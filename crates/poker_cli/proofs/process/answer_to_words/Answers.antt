@@ -30,13 +30,13 @@ no_command (Err error) items status none usage =
     λ kind. usage (subst (λ (words : List (String Global)). request_said (map string_bytes words) ≡ None) (sym none) refl)
 
 -- what is promised for some words is promised for the same words
-moved : {S H K D : Type 0} {words given : List (List ℕ)} {left : Option (List ℕ)} {told : Option FilesByName} {Asked : H → H → List ℕ → Type 0} {reads asks : ℕ × ℕ}
+moved : {S H K D : Type 0} {words given : List (List ℕ)} {left : Option (List ℕ)} {shown : Option FilesByName} {Asked : H → H → List ℕ → Type 0} {reads asks : ℕ × ℕ}
     {out diag : Sinks} {status : Status} {input read : S} {shelf seen : H} {sink written : K} {lines heard : D}
-    → words ≡ given → RunKeeps words left told Asked reads asks out diag status input read shelf seen sink written lines heard
-    → RunKeeps given left told Asked reads asks out diag status input read shelf seen sink written lines heard
-moved {left = left} {told = told} {Asked = Asked} {reads = reads} {asks = asks} {out = out} {diag = diag} {status = status} {input = input} {read = read}
+    → words ≡ given → RunKeeps words left shown Asked reads asks out diag status input read shelf seen sink written lines heard
+    → RunKeeps given left shown Asked reads asks out diag status input read shelf seen sink written lines heard
+moved {left = left} {shown = shown} {Asked = Asked} {reads = reads} {asks = asks} {out = out} {diag = diag} {status = status} {input = input} {read = read}
     {shelf = shelf} {seen = seen} {sink = sink} {written = written} {lines = lines} {heard = heard} same keeps =
-    subst (λ (w : List (List ℕ)). RunKeeps w left told Asked reads asks out diag status input read shelf seen sink written lines heard) same keeps
+    subst (λ (w : List (List ℕ)). RunKeeps w left shown Asked reads asks out diag status input read shelf seen sink written lines heard) same keeps
 
 pub returns-in-Ok-clause-run : goal.returns-in-Ok-clause-run
 returns-in-Ok-clause-run g c =
@@ -61,4 +61,4 @@ returns-in-Ok-clause-no_text g c =
 
 pub returns-in-Err-clause-run : goal.returns-in-Err-clause-run
 returns-in-Err-clause-run g c =
-    inl (record { memory = refl; refused = c.in-Err.memory.refused; told = c.print_line.ensures; unread = refl; unasked = refl; unwritten = refl })
+    inl (record { memory = refl; refused = c.in-Err.memory.refused; shown = c.print_line.ensures; unread = refl; unasked = refl; unwritten = refl })

@@ -12,7 +12,7 @@ pub returns-then-seats-seen : goal.returns-then-seats-seen
 returns-then-seats-seen c = λ plays seen.
     let beyond : c.args.seen.game.stacks.seats < c.args.seen.seat.number = omega (arith, c.if-seats-seen.true) in
     IfOk-weaker c.no_seat.result _ _
-    (λ answer told. subst (AreViews c.args.seen.game c.args.seen.seat plays) (sym told) (in_views.NoSeat beyond))
+    (λ answer shown. subst (AreViews c.args.seen.game c.args.seen.seat plays) (sym shown) (in_views.NoSeat beyond))
     c.no_seat.ensures
 
 pub returns-then-not-seen : goal.returns-then-not-seen

@@ -4,7 +4,7 @@ use Rattle.std.proofs.Common.{refl, subst}
 use Rattle.acpc_game.specs.declared.game.Game.{Game}
 use Rattle.chip_ledger.specs.declared.numbers.Seat.{Seat}
 use Rattle.poker_cli.specs.Views.{AreViews}
-use Rattle.poker_cli.specs.Told.{answer_told}
+use Rattle.poker_cli.specs.FaultAnswers.{answer_said}
 use Rattle.poker_cli.proofs.SeenViews.{none_seen}
 use Rattle.poker_cli.proofs.views.views_of.Goals as goal
 
@@ -15,7 +15,7 @@ pub returns-in-Ok-answer_with_seen-clause-answer : goal.returns-in-Ok-answer_wit
 returns-in-Ok-answer_with_seen-clause-answer c =
     let taken = c.in-Ok.ensures.taken in
     let seen = c.in-Ok.seen in
-    let answer = answer_told c.in-Ok-answer_with_seen.answer in
+    let answer = answer_said c.in-Ok-answer_with_seen.answer in
     record {
       plays = taken.plays;
       are = taken.are;

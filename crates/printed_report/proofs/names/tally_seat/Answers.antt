@@ -6,7 +6,7 @@ use Rattle.report_layout.specs.Indexed.{AreIndexed}
 use Rattle.report_layout.specs.Names.{with_name}
 use Rattle.report_layout.specs.declared.index.NameIndex.{NameIndex}
 use Rattle.printed_report.specs.Report.{seated_in}
-use Rattle.printed_report.specs.Tallies.{AreTallied, IsWithin, MOST_SEATS, row_names, rows_of, tally_at, with_seat}
+use Rattle.printed_report.specs.Tallies.{AreTallied, IsWithin, MOST_SEATS, named_tallies, tally_at, tally_names, with_seat}
 use Rattle.printed_report.specs.declared.tally.NamedTally.{NamedTally}
 use Rattle.printed_report.specs.declared.tally.Tally.{Tally}
 use Rattle.printed_report.proofs.Places.{IsPlaceFrom, is_place, its_name, names_long, none_found, place_within, rows_put, set_at_place, still_tallied, tally_found}
@@ -20,7 +20,7 @@ module _ (c : goal.In_ok-insert_tally) where
   abbrev name : List ℕ
   name = c.name_of-name.result.now
 
-  many : length (row_names (rows_of entries)) ≡ c.len-others.result
+  many : length (tally_names (named_tallies entries)) ≡ c.len-others.result
   many = omega (arith, names_long entries, c.len-others.ensures.len)
 
   placed : IsPlaceFrom 0 entries name c.in_ok-place.place
@@ -29,7 +29,7 @@ module _ (c : goal.In_ok-insert_tally) where
   abbrev named : NamedTally
   named = record { name = c.in_ok-name.name; tally = c.with_seat-tally.result }
 
-  tally_is : c.with_seat-tally.result ≡ with_seat c.args.number (tally_at (rows_of entries) name) (seated_in c.args.play.now c.args.seat.number)
+  tally_is : c.with_seat-tally.result ≡ with_seat c.args.number (tally_at (named_tallies entries) name) (seated_in c.args.play.now c.args.seat.number)
   tally_is =
       c.with_seat-tally.ensures
       ∙ ap (λ (its : Tally). with_seat c.args.number its (seated_in c.args.play.now c.args.seat.number))
@@ -37,16 +37,16 @@ module _ (c : goal.In_ok-insert_tally) where
 
 pub returns-then-place-others-clause-rows : goal.returns-then-place-others-clause-rows
 returns-then-place-others-clause-rows c =
-    ap rows_of c.in_ok-insert_tally.ensures
+    ap named_tallies c.in_ok-insert_tally.ensures
     ∙ rows_put (entries c) (named c) (name c) c.in_ok-place.place c.requires.tallied.places (placed c) c.in_ok-name.ensures
-    ∙ ap (insert_entry bytes_eq (rows_of (entries c)) (name c)) (tally_is c)
-    ∙ ap (λ (text : List ℕ). insert_entry bytes_eq (rows_of (entries c)) text (with_seat c.args.number (tally_at (rows_of (entries c)) text) (seated_in c.args.play.now c.args.seat.number))) c.name_of-name.ensures
+    ∙ ap (insert_entry bytes_eq (named_tallies (entries c)) (name c)) (tally_is c)
+    ∙ ap (λ (text : List ℕ). insert_entry bytes_eq (named_tallies (entries c)) text (with_seat c.args.number (tally_at (named_tallies (entries c)) text) (seated_in c.args.play.now c.args.seat.number))) c.name_of-name.ensures
 
 pub returns-then-place-others-clause-tallied : goal.returns-then-place-others-clause-tallied
 returns-then-place-others-clause-tallied c =
     subst (AreTallied c.place_of.new.self) (sym c.in_ok-insert_tally.ensures)
     (still_tallied c.place_of.new.self (entries c) (named c) (name c) c.in_ok-place.place
-    (c.in_ok-place.ensures.names (row_names (rows_of (entries c))) c.requires.tallied.names (many c)) c.requires.tallied.places (placed c) c.in_ok-name.ensures)
+    (c.in_ok-place.ensures.names (tally_names (named_tallies (entries c))) c.requires.tallied.names (many c)) c.requires.tallied.places (placed c) c.in_ok-name.ensures)
 
 -- a name that has its place
 known_within : (index : NameIndex) (entries : List (ℕ × NamedTally)) (name : List ℕ) (place others : ℕ) → AreTallied index entries
@@ -81,7 +81,7 @@ module _ (c : goal.After-tallies-1) where
   abbrev asked : List ℕ
   asked = c.name_of-name.result.now
 
-  all : length (row_names (rows_of old)) ≡ c.len-others.result
+  all : length (tally_names (named_tallies old)) ≡ c.len-others.result
   all = omega (arith, names_long old, c.len-others.ensures.len)
 
   at : IsPlaceFrom 0 old asked c.in_ok-place.place
@@ -93,7 +93,7 @@ module _ (c : goal.After-tallies-1) where
   abbrev put : NamedTally
   put = record { name = c.index_mut.result.now.name; tally = c.with_seat-tally-2.result }
 
-  its : c.with_seat-tally-2.result ≡ with_seat c.args.number (tally_at (rows_of old) asked) (seated_in c.args.play.now c.args.seat.number)
+  its : c.with_seat-tally-2.result ≡ with_seat c.args.number (tally_at (named_tallies old) asked) (seated_in c.args.play.now c.args.seat.number)
   its =
       c.with_seat-tally-2.ensures
       ∙ ap (λ (tally : Tally). with_seat c.args.number tally (seated_in c.args.play.now c.args.seat.number))
@@ -104,13 +104,13 @@ module _ (c : goal.After-tallies-1) where
 
 pub returns-clause-rows : goal.returns-clause-rows
 returns-clause-rows c =
-    ap rows_of (set_at_place (old c) c.in_ok-place.place (put c) c.requires.tallied.places (within c))
+    ap named_tallies (set_at_place (old c) c.in_ok-place.place (put c) c.requires.tallied.places (within c))
     ∙ rows_put (old c) (put c) (asked c) c.in_ok-place.place c.requires.tallied.places (at c) (called c)
-    ∙ ap (insert_entry bytes_eq (rows_of (old c)) (asked c)) (its c)
-    ∙ ap (λ (text : List ℕ). insert_entry bytes_eq (rows_of (old c)) text (with_seat c.args.number (tally_at (rows_of (old c)) text) (seated_in c.args.play.now c.args.seat.number))) c.name_of-name.ensures
+    ∙ ap (insert_entry bytes_eq (named_tallies (old c)) (asked c)) (its c)
+    ∙ ap (λ (text : List ℕ). insert_entry bytes_eq (named_tallies (old c)) text (with_seat c.args.number (tally_at (named_tallies (old c)) text) (seated_in c.args.play.now c.args.seat.number))) c.name_of-name.ensures
 
 pub returns-clause-tallied : goal.returns-clause-tallied
 returns-clause-tallied c =
     subst (AreTallied c.place_of.new.self) (sym (set_at_place (old c) c.in_ok-place.place (put c) c.requires.tallied.places (within c)))
     (still_tallied c.place_of.new.self (old c) (put c) (asked c) c.in_ok-place.place
-    (c.in_ok-place.ensures.names (row_names (rows_of (old c))) c.requires.tallied.names (all c)) c.requires.tallied.places (at c) (called c))
+    (c.in_ok-place.ensures.names (tally_names (named_tallies (old c))) c.requires.tallied.names (all c)) c.requires.tallied.places (at c) (called c))

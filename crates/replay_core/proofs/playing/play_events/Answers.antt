@@ -49,8 +49,8 @@ loop-event-preserved g c =
     let legal : why first.setup first.rules past event ≡ None =
     sym (ap (λ (s : Setup). why s b.rules past event) inv.setup ∙ ap (λ (r : Rules). why first.setup r past event) inv.rules) ∙ c.in-Ok.ensures.legal past inv.played.stands in
     let stands = subst (λ (s : Setup). StandTogether new.betting new.cards (with_event s event past)) inv.setup (c.in-Ok.ensures.stands past inv.played.stands) in
-    let told = c.in-Ok.ensures.moves past inv.played.stands (subst (λ (s : Setup). AreMovesOf s past c.loop-event.moves) (sym inv.setup) inv.played.moves) in
-    let moves = subst (λ (s : Setup). AreMovesOf s (with_event s event past) c.play_event.new.moves) inv.setup told in
+    let added = c.in-Ok.ensures.moves past inv.played.stands (subst (λ (s : Setup). AreMovesOf s past c.loop-event.moves) (sym inv.setup) inv.played.moves) in
+    let moves = subst (λ (s : Setup). AreMovesOf s (with_event s event past) c.play_event.new.moves) inv.setup added in
     record {
       left = next.left;
       within = omega (arith, next.within);

@@ -7,7 +7,7 @@ use Rattle.play_event.specs.Games.{street_count}
 use Rattle.betting_numbers.specs.declared.betting_state.BettingState.{BettingState}
 use Rattle.betting_numbers.specs.Standing.{StandsFor}
 use Rattle.betting_numbers.proofs.Dealt.{show_ended, showdown_dealt, stands_dealt, up_to_dealt}
-use Rattle.betting_core.specs.Kept.{AreOfGame}
+use Rattle.betting_core.specs.HandNumbers.{AreOfGame}
 use Rattle.betting_core.proofs.betting.Betting.dealt.Goals as goal
 
 pub returns-in-Show-clause-stands : goal.returns-in-Show-clause-stands

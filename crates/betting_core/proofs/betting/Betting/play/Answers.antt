@@ -15,7 +15,7 @@ use Rattle.betting_numbers.specs.Turn.{IsFirstBehind, IsNextUp, IsPassedTo, IsSe
 use Rattle.betting_numbers.proofs.NextUp.{next_up}
 use Rattle.betting_numbers.proofs.StandsAfter.{stands_after}
 use Rattle.betting_numbers.proofs.TraceLaws.{same_move}
-use Rattle.betting_core.specs.Kept.{AreOfGame}
+use Rattle.betting_core.specs.HandNumbers.{AreOfGame}
 use Rattle.betting_core.proofs.betting.Betting.play.Goals as goal
 
 pub returns-clause-stands : goal.returns-clause-stands

@@ -9,5 +9,5 @@ pub returns-clause-ranks : goal.returns-clause-ranks
 unfolding is_in
 returns-clause-ranks c = λ rank.
     ap (λ (n : ℕ). n == 1)
-    (suit_bits c.args.self.now.bits c.place_of_suit.result (ranks_below rank) (ranks_below-few rank)
-    ∙ ap (λ (s : ℕ). bit_at c.args.self.now.bits (13 * s + ranks_below rank)) c.place_of_suit.ensures.place)
+    (suit_bits c.args.self.now.bits c.suit_index.result (ranks_below rank) (ranks_below-few rank)
+    ∙ ap (λ (s : ℕ). bit_at c.args.self.now.bits (13 * s + ranks_below rank)) c.suit_index.ensures.index)

@@ -9,24 +9,24 @@ use Rattle.card_set.proofs.set.CardSet.to_row.Goals.{then-has, else-has}
 pub push-requires : goal.push-requires
 push-requires c =
     let set = c.args.self.now in
-    let place = c.loop-place.place in
-    let more = ap (length {A = Card}) (deck_more (is_in set) c.card_at-card.result place true c.card_at-card.ensures c.loop-place-test.true (sym c.has.ensures ∙ c.if-has.true)) in
-    let so_far = ap (length {A = Card}) c.loop-place.invariant in
-    omega (arith, more, so_far, c.requires, deck_first-le (is_in set) (place + 1), length-append (filter (is_in set) (take place every_card)) (c.card_at-card.result ∷ []), row_length c.loop-place.row)
+    let index = c.loop-index.index in
+    let more = ap (length {A = Card}) (deck_more (is_in set) c.card_at-card.result index true c.card_at-card.ensures c.loop-index-test.true (sym c.has.ensures ∙ c.if-has.true)) in
+    let so_far = ap (length {A = Card}) c.loop-index.invariant in
+    omega (arith, more, so_far, c.requires, deck_first-le (is_in set) (index + 1), length-append (filter (is_in set) (take index every_card)) (c.card_at-card.result ∷ []), row_length c.loop-index.row)
 
-pub loop-place-preserved : goal.loop-place-preserved
-loop-place-preserved c =
+pub loop-index-preserved : goal.loop-index-preserved
+loop-index-preserved c =
     let set = c.args.self.now in
-    let place = c.loop-place.place in
+    let index = c.loop-index.index in
     let card = c.card_at-card.result in
     elim c.if-has.branch [
       | then-has w ↦
-          ap cards_of w.row-is ∙ w.push.ensures.entries ∙ ap (λ (l : List Card). l ++ card ∷ []) c.loop-place.invariant
-          ∙ sym (deck_more (is_in set) card place true c.card_at-card.ensures c.loop-place-test.true (sym c.has.ensures ∙ w.if-has.true))
+          ap cards_of w.row-is ∙ w.push.ensures.entries ∙ ap (λ (l : List Card). l ++ card ∷ []) c.loop-index.invariant
+          ∙ sym (deck_more (is_in set) card index true c.card_at-card.ensures c.loop-index-test.true (sym c.has.ensures ∙ w.if-has.true))
       | else-has w ↦
-          ap cards_of w.row-is ∙ c.loop-place.invariant ∙ sym (append-nil (filter (is_in set) (take place every_card)))
-          ∙ sym (deck_more (is_in set) card place false c.card_at-card.ensures c.loop-place-test.true (sym c.has.ensures ∙ w.if-has.false))
+          ap cards_of w.row-is ∙ c.loop-index.invariant ∙ sym (append-nil (filter (is_in set) (take index every_card)))
+          ∙ sym (deck_more (is_in set) card index false c.card_at-card.ensures c.loop-index-test.true (sym c.has.ensures ∙ w.if-has.false))
     ]
 
 pub returns : goal.returns
-returns c = c.loop-place.invariant ∙ deck_all (is_in c.args.self.now) c.loop-place.place (omega arith)
+returns c = c.loop-index.invariant ∙ deck_all (is_in c.args.self.now) c.loop-index.index (omega arith)

@@ -4,5 +4,5 @@ use Rattle.card_set.specs.Row.{cards_of}
 use Rattle.card_set.proofs.set.CardSet.to_row.Given as goal
 
 -- the row has the cards of the set so far
-abbrev pub invariant-loop-place : goal.invariant-loop-place
-invariant-loop-place l = cards_of l.row ≡ filter (is_in l.self) (take l.place every_card)
+abbrev pub invariant-loop-index : goal.invariant-loop-index
+invariant-loop-index l = cards_of l.row ≡ filter (is_in l.self) (take l.index every_card)

@@ -4,8 +4,8 @@ use Rattle.std.proofs.lemmas.List.{length-map, map-append}
 use Rattle.report_layout.specs.Names.{with_name}
 use Rattle.hand_session.specs.declared.steps.Step.{Step}
 use Rattle.hand_session.specs.Hands.{Hand, hand_of}
-use Rattle.hand_session.specs.Sessions.{names_among, names_of, row_of, steps_after}
-use Rattle.hand_session.specs.Visits.{IsOfHands, row_at, row_names, steps_of_names, visit_in, with_names, with_visit}
+use Rattle.hand_session.specs.Sessions.{names_among, names_of, session_of_name, steps_after}
+use Rattle.hand_session.specs.Visits.{IsOfHands, session_at, session_names, steps_of_names, visit_in, with_names, with_visit}
 use Rattle.hand_session.proofs.SeatNames.{any_names, distinct_names, names_of_more}
 use Rattle.hand_session.proofs.HandByHand.{rakes_more, row_more, seated_more, steps_after_more, steps_hand, within_more}
 use Rattle.hand_session.proofs.HandChips.{rake_within}
@@ -28,7 +28,7 @@ add_hand-requires-clause-within c name =
     let before = c.requires.begun.0 in
     let so_far = c.requires.begun.1 in
     let same : length before ≡ c.args.self.now.hands + 1 - 1 = omega (arith, so_far.hands) in
-    subst (λ (count : ℕ). IsOfHands count (row_at c.args.self.now.ledger.rows.items name)) same
+    subst (λ (count : ℕ). IsOfHands count (session_at c.args.self.now.ledger.rows.items name)) same
     (subst (IsOfHands (length before)) (sym (so_far.rows name)) (so_far.within name))
 
 pub rakes_of-rake-requires : goal.rakes_of-rake-requires
@@ -51,20 +51,20 @@ returns c = λ before so_far.
     record {
       indexed = c.in_ok-add_hand.ensures.names;
       names =
-          ap row_names rows_are
+          ap session_names rows_are
           ∙ names_of_rows hand rows (names_among hand.seats)
           ∙ ap (λ names. fold with_name names (names_among hand.seats)) so_far.names
           ∙ sym (names_of_more hands hand (seated_more hands hand))
           ∙ ap names_of (sym more);
       rows = λ name.
-          ap (λ some. row_at some name) rows_are
+          ap (λ some. session_at some name) rows_are
           ∙ at_names hand rows (names_among hand.seats) name (distinct_names hand.seats)
           ∙ (λ i. cond (any_names name hand.seats i) (with_visit (so_far.rows name i) (visit_in name hand)) (so_far.rows name i))
           ∙ sym (row_more hands hand name)
-          ∙ ap (λ some. row_of some name) (sym more);
+          ∙ ap (λ some. session_of_name some name) (sym more);
       within = λ name.
-          subst (λ some. IsOfHands (length (before ++ play ∷ [])) (row_of some name)) (sym more)
-          (subst (λ (count : ℕ). IsOfHands count (row_of (hands ++ hand ∷ []) name)) (sym one_more)
+          subst (λ some. IsOfHands (length (before ++ play ∷ [])) (session_of_name some name)) (sym more)
+          (subst (λ (count : ℕ). IsOfHands count (session_of_name (hands ++ hand ∷ []) name)) (sym one_more)
           (within_more (length before) hands hand name (visit_within play name) (so_far.within name)));
       steps =
           c.in_ok-add_hand.ensures.steps

@@ -5,7 +5,7 @@ use Rattle.std.proofs.lemmas.List.{length-map, map-append}
 use Rattle.first_fault.specs.declared.limits.TheConstants.{MOST_HANDS}
 use Rattle.printed_report.specs.Games.{AreFewSums, all_wanted, sums_of, with_hand}
 use Rattle.printed_report.specs.Report.{hand_of, seated_in}
-use Rattle.printed_report.specs.Tallies.{AreWithin, IsWithin, MOST_SEATS, rows_of, tally_at, with_hands, with_row, with_seats}
+use Rattle.printed_report.specs.Tallies.{AreWithin, IsWithin, MOST_SEATS, named_tallies, tally_at, with_hands, with_play, with_seats}
 use Rattle.printed_report.proofs.Counted.{all_few_more, sums_more, wider_sums}
 use Rattle.printed_report.proofs.Within.{hands_more, next_seat, wider, within_row}
 use Rattle.printed_report.proofs.report.OpenReport.add_play.Goals as goal
@@ -20,8 +20,8 @@ loop-index-init c =
     let seats = play.trace.setup.stacks.seats in
     let all : seats - 0 ≡ seats = omega arith in
     record {
-      rows = ap (λ (count : ℕ). with_seats (c.args.self.now.hands + 1) (rows_of c.args.self.now.tallies.entries) (map (seated_in play) (range_with_len 1 count))) all;
-      within = subst (λ (count : ℕ). AreWithin count (rows_of c.args.self.now.tallies.entries)) same c.requires.1.within;
+      rows = ap (λ (count : ℕ). with_seats (c.args.self.now.hands + 1) (named_tallies c.args.self.now.tallies.entries) (map (seated_in play) (range_with_len 1 count))) all;
+      within = subst (λ (count : ℕ). AreWithin count (named_tallies c.args.self.now.tallies.entries)) same c.requires.1.within;
       tallied = c.requires.1.tallied;
       sums = refl;
     }
@@ -30,7 +30,7 @@ pub tally_seat-requires-clause-within : goal.tally_seat-requires-clause-within
 tally_seat-requires-clause-within c =
     let so_many = (c.args.self.now.hands + 1 - 1) * 10 + c.loop-index.index in
     let few : so_many ≤ MOST_SEATS = omega (arith, c.requires.1.hands, c.requires.2, c.loop-index-test.true, c.args.play.now.trace.setup.stacks.greatest) in
-    λ name. wider so_many MOST_SEATS (tally_at (rows_of c.loop-index.self.tallies.entries) name) few (c.loop-index.invariant.within name)
+    λ name. wider so_many MOST_SEATS (tally_at (named_tallies c.loop-index.self.tallies.entries) name) few (c.loop-index.invariant.within name)
 
 pub loop-index-preserved : goal.loop-index-preserved
 loop-index-preserved c =
@@ -38,8 +38,8 @@ loop-index-preserved c =
     let number = c.args.self.now.hands + 1 in
     let index = c.loop-index.index in
     let seats = play.trace.setup.stacks.seats in
-    let rows = rows_of c.loop-index.self.tallies.entries in
-    let next : rows_of c.tally_seat.new.tallies.entries ≡ with_row number rows (seated_in play (index + 1)) = c.in_ok-tally_seat.ensures.rows in
+    let rows = named_tallies c.loop-index.self.tallies.entries in
+    let next : named_tallies c.tally_seat.new.tallies.entries ≡ with_play number rows (seated_in play (index + 1)) = c.in_ok-tally_seat.ensures.rows in
     let so_many : (number - 1) * 10 + index + 1 ≡ (number - 1) * 10 + (index + 1) = omega arith in
     let more = within_row number ((number - 1) * 10 + index) rows (seated_in play (index + 1)) (play.trace.setup.stacks.bounded (index + 1 - 1)) (play.trace.finish.bounded (index + 1 - 1)) c.loop-index.invariant.within in
     record {
@@ -47,7 +47,7 @@ loop-index-preserved c =
           ap (λ rows. with_seats number rows (map (seated_in play) (range_with_len (index + 1 + 1) (seats - (index + 1))))) next
           ∙ next_seat number rows (seated_in play) index seats c.loop-index-test.true
           ∙ c.loop-index.invariant.rows;
-      within = λ name. subst (λ n. IsWithin n (tally_at (rows_of c.tally_seat.new.tallies.entries) name)) so_many
+      within = λ name. subst (λ n. IsWithin n (tally_at (named_tallies c.tally_seat.new.tallies.entries) name)) so_many
           (subst (λ rows. IsWithin ((number - 1) * 10 + index + 1) (tally_at rows name)) (sym next) (more name));
       tallied = c.in_ok-tally_seat.ensures.tallied;
       sums = c.loop-index.invariant.sums;
@@ -68,10 +68,10 @@ returns c = λ before so_far.
     let number = c.args.self.now.hands + 1 in
     let index = c.loop-index.index in
     let seats = play.trace.setup.stacks.seats in
-    let rows = rows_of c.loop-index.self.tallies.entries in
+    let rows = named_tallies c.loop-index.self.tallies.entries in
     let inv = c.loop-index.invariant in
     let none_left : seats - index ≡ 0 = omega (arith, c.loop-index-test.false) in
-    let tallies : rows ≡ with_seats number (rows_of c.args.self.now.tallies.entries) hand.seats =
+    let tallies : rows ≡ with_seats number (named_tallies c.args.self.now.tallies.entries) hand.seats =
     ap (λ (count : ℕ). with_seats number rows (map (seated_in play) (range_with_len (index + 1) count))) (sym none_left) ∙ inv.rows in
     let more : map hand_of (before ++ play ∷ []) ≡ hands ++ hand ∷ [] = map-append hand_of before (play ∷ []) in
     let many : length hands ≡ length before = length-map before hand_of in

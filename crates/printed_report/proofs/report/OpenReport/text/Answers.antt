@@ -3,7 +3,7 @@ use Rattle.std.proofs.Common.{◌≤◌, ◌*◌, ◌++◌, ◌∙◌, ap, appen
 use Rattle.std.specs.List.{AllByRecursion}
 use Rattle.printed_report.specs.Games.{sums_line}
 use Rattle.printed_report.specs.Report.{game_codes, game_line, hand_of, hands_line, hands_with, name_line, names_of, net_of}
-use Rattle.printed_report.specs.Tallies.{AreWithin, IsRowWithin, MOST_SEATS, row_line, rows_of, tally_at}
+use Rattle.printed_report.specs.Tallies.{AreWithin, IsRowWithin, MOST_SEATS, named_tallies, named_tally_line, tally_at}
 use Rattle.printed_report.proofs.Counted.{lines_are}
 use Rattle.printed_report.proofs.Named.{names_text}
 use Rattle.printed_report.proofs.RowLines.{lines_by_name, rows_within}
@@ -18,17 +18,17 @@ push_names-requires c =
     let few : length plays * 10 ≤ MOST_SEATS = omega (arith, c.requires.2) in
     subst (AllByRecursion IsRowWithin) (sym so_far.rows)
     (rows_within hands (subst (AreWithin MOST_SEATS) so_far.rows
-    (λ name. wider (length plays * 10) MOST_SEATS (tally_at (rows_of c.args.self.now.tallies.entries) name) few (so_far.within name))))
+    (λ name. wider (length plays * 10) MOST_SEATS (tally_at (named_tallies c.args.self.now.tallies.entries) name) few (so_far.within name))))
 
 pub returns : goal.returns
 returns c = λ plays so_far.
     let hands = map hand_of plays in
     let games = flat_map (game_line hands) game_codes in
     let total = hands_line (codes "total") hands in
-    let rows = rows_of c.args.self.now.tallies.entries in
+    let rows = named_tallies c.args.self.now.tallies.entries in
     c.in_ok-push_names.ensures
-    ∙ ap (λ bytes. bytes ++ flat_map row_line rows) (c.in_ok-push_sums.ensures ∙ ap (λ start. start ++ flat_map sums_line c.deref.result.now) c.new-text.ensures.bytes)
-    ∙ ap (λ lines. flat_map sums_line lines ++ flat_map row_line rows) (c.deref.ensures.value ∙ so_far.sums)
-    ∙ ap (λ lines. lines ++ flat_map row_line rows) (lines_are hands)
-    ∙ ap (λ rest. (games ++ total) ++ rest) (ap (flat_map row_line) so_far.rows ∙ lines_by_name hands ∙ names_text hands)
+    ∙ ap (λ bytes. bytes ++ flat_map named_tally_line rows) (c.in_ok-push_sums.ensures ∙ ap (λ start. start ++ flat_map sums_line c.deref.result.now) c.new-text.ensures.bytes)
+    ∙ ap (λ lines. flat_map sums_line lines ++ flat_map named_tally_line rows) (c.deref.ensures.value ∙ so_far.sums)
+    ∙ ap (λ lines. lines ++ flat_map named_tally_line rows) (lines_are hands)
+    ∙ ap (λ rest. (games ++ total) ++ rest) (ap (flat_map named_tally_line) so_far.rows ∙ lines_by_name hands ∙ names_text hands)
     ∙ append_assoc games total (flat_map (λ name. name_line (net_of hands name) (hands_with hands name) name) (names_of hands))

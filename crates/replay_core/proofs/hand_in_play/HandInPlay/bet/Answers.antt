@@ -12,7 +12,7 @@ returns-in-Err-clause-advanced g c =
       refused = λ past both. c.in-Err.ensures.refused past both.betting (c.opening_up_cards-up.ensures.ups past both);
       legal = λ past both. tt;
       stands = λ past both. tt;
-      told = λ past both. tt;
+      added = λ past both. tt;
       same = record { hand = c.step.ensures.same; seats = refl };
     }
 
@@ -34,7 +34,7 @@ returns-then-folds-clause-advanced g c =
             cards = folded_stands t c.folded.new.self b.setup past event c.in-Ok.moved c.requires (c.in-Ok.ensures.moved past both.betting ups)
                 (λ move. c.folded.ensures.stands past move both.cards) (sym c.folds.ensures ∙ c.if-folds.true);
           };
-      told = λ past both. move_told b past event c.in-Ok.moved c.requires (c.in-Ok.ensures.moved past both.betting (c.opening_up_cards-up.ensures.ups past both));
+      added = λ past both. move_told b past event c.in-Ok.moved c.requires (c.in-Ok.ensures.moved past both.betting (c.opening_up_cards-up.ensures.ups past both));
       same = record { hand = hand; seats = c.folded.ensures.hand.seats };
     }
 
@@ -56,7 +56,7 @@ returns-else-folds-clause-advanced g c =
             cards = moved_stands t b.setup past event c.in-Ok.moved c.requires (c.in-Ok.ensures.moved past both.betting ups) both.cards
                 (sym c.folds.ensures ∙ c.if-folds.false);
           };
-      told = λ past both. move_told b past event c.in-Ok.moved c.requires (c.in-Ok.ensures.moved past both.betting (c.opening_up_cards-up.ensures.ups past both));
+      added = λ past both. move_told b past event c.in-Ok.moved c.requires (c.in-Ok.ensures.moved past both.betting (c.opening_up_cards-up.ensures.ups past both));
       same = record { hand = hand; seats = refl };
     }
 

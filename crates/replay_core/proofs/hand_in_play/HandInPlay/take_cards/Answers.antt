@@ -31,7 +31,7 @@ returns-in-Ok-clause-advanced g c =
       stands = λ past both. c.end.ensures.stands (with_event b.setup event past)
           (up_to_after b past event t c.lay.new.cards both c.requires (legal past both) game.kept.first within
           c.lay.ensures.hand.code c.lay.ensures.hand.seats (c.in-Ok.ensures.stands b.setup past (now past both)));
-      told = λ past both. none_told b past event c.requires;
+      added = λ past both. none_told b past event c.requires;
       same = record { hand = c.end.ensures.same.hand; seats = c.end.ensures.same.seats ∙ c.lay.ensures.hand.seats };
     }
 
@@ -45,7 +45,7 @@ returns-in-Err-clause-advanced g c =
           c.in-Err.ensures.illegal b.rules b.setup past now (sym (c.settled-settled.ensures.stands past both.betting));
       legal = λ past both. tt;
       stands = λ past both. tt;
-      told = λ past both. tt;
+      added = λ past both. tt;
       same = record { hand = record { setup = refl; rules = refl }; seats = c.lay.ensures.hand.seats };
     }
 
