@@ -14,10 +14,10 @@ use Rattle.play_event.specs.Said as said
 use Rattle.play_event.specs.Said.{Numbered}
 use Rattle.play_event.specs.Trace.{TracedPlace}
 use Rattle.acpc_game.specs.Parts.{parts_of}
-use Rattle.acpc_writing.specs.Cards.{board_text, boards_text, cards_text, hole_text, holes_text}
-use Rattle.acpc_writing.specs.Names.{may_stand}
-use Rattle.acpc_writing.specs.PlayFacts.{is_part_known}
-use Rattle.acpc_writing.specs.Rounds.{further_streets, has_board}
+use Rattle.acpc_format.specs.Cards.{board_text, boards_text, cards_text, hole_text, holes_text}
+use Rattle.acpc_format.specs.Names.{may_stand}
+use Rattle.acpc_format.specs.PlayFacts.{is_part_known}
+use Rattle.acpc_format.specs.Rounds.{further_streets, has_board}
 use Rattle.acpc_reading.specs.Cards.{board_said, hole_after, hole_said, holes_after, known_said}
 use Rattle.acpc_format.proofs.Readable.{HasHoles}
 use Rattle.acpc_format.proofs.Signs.{cards_plain, is_plain}

@@ -20,9 +20,9 @@ use Rattle.play_event.specs.Trace.{TracedPlace}
 use Rattle.play_event.specs.declared.setup.Setup.{Setup}
 use Rattle.first_fault.specs.Reading.{◌>>=◌}
 use Rattle.acpc_game.specs.declared.fault.LineFault.{LineFault}
-use Rattle.acpc_writing.specs.Betting.{hand_total}
-use Rattle.acpc_writing.specs.Cards.{cards_text, hole_text, holes_text}
-use Rattle.acpc_writing.specs.Rounds.{further_streets, has_board}
+use Rattle.acpc_format.specs.Betting.{hand_total}
+use Rattle.acpc_format.specs.Cards.{cards_text, hole_text, holes_text}
+use Rattle.acpc_format.specs.Rounds.{further_streets, has_board}
 use Rattle.acpc_game.specs.Parts.{parts_of}
 use Rattle.acpc_reading.specs.Cards.{Written, dealt, holes_after, next_round, script_said, step_after, steps_after, steps_said, without_rest}
 use Rattle.acpc_reading.specs.declared.step.BettingStep.{BettingStep}

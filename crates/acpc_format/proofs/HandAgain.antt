@@ -27,23 +27,23 @@ use Rattle.hand_canon.specs.Sound.{IsSound}
 use Rattle.hand_canon.specs.WholeTrace.{IsTraceOf}
 use Rattle.chip_ledger.specs.LiveRow.{flagged}
 use Rattle.chip_ledger.specs.Seat.{seats_of}
-use Rattle.hand_records.specs.SoundRecord.{script_said}
-use Rattle.hand_records.specs.TraceRows.{core_said}
-use Rattle.hand_records.specs.declared.record.Record.{Record}
-use Rattle.hand_records.specs.declared.trace.Play.{Play}
-use Rattle.hand_records.specs.declared.trace.Trace.{Trace}
-use Rattle.hand_records.specs.declared.writing.Keep.{Keep}
+use Rattle.hand_canon.specs.SoundRecord.{script_said}
+use Rattle.hand_canon.specs.TraceRows.{core_said}
+use Rattle.hand_canon.specs.declared.record.Record.{Record}
+use Rattle.hand_canon.specs.declared.trace.Play.{Play}
+use Rattle.hand_canon.specs.declared.trace.Trace.{Trace}
+use Rattle.hand_canon.specs.declared.writing.Keep.{Keep}
 use Rattle.acpc_game.specs.declared.game.Game.{Game}
-use Rattle.acpc_writing.specs.PlayFacts.{is_open_muck}
-use Rattle.acpc_writing.specs.SetupFacts.{is_code_of}
-use Rattle.acpc_writing.specs.Spelled.{unspelled}
+use Rattle.acpc_format.specs.PlayFacts.{is_open_muck}
+use Rattle.acpc_format.specs.SetupFacts.{is_code_of}
+use Rattle.acpc_format.specs.Spelled.{unspelled}
 use Rattle.acpc_reading.specs.Logs.{HandSaid}
 use Rattle.acpc_reading.specs.RecordView.{IsOfGame, code_of, record_said, rules_of}
 use Rattle.acpc_format.specs.Again.{hand_again, numbered_from, script_again, street_again}
 use Rattle.hand_canon.specs.ReadAgain.{IsAgain}
 use Rattle.acpc_format.specs.KeptNotes.{kept_in_acpc}
 use Rattle.acpc_format.proofs.KeptAgain.{keeps_said}
-use Rattle.hand_records.specs.SaidNotes.{KeepsNotes}
+use Rattle.hand_canon.specs.SaidNotes.{KeepsNotes}
 use Rattle.acpc_format.proofs.HiddenMucks.{mucks_hide}
 use Rattle.acpc_format.proofs.Holdem.{IsHoldem, holdem}
 use Rattle.acpc_format.proofs.LetterEvents.{letters_same}

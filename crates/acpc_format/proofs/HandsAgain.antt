@@ -3,25 +3,25 @@ use Rattle.std.proofs.Common.{◌≡◌, ℕ, ◌+◌, ◌≤◌, List, [], ◌�
 use Rattle.std.specs.List.{AllByRecursion}
 use Rattle.hand_canon.specs.Sound.{IsSound}
 use Rattle.first_fault.specs.declared.limits.TheConstants.{MOST_FILE_MOVES, MOST_HANDS}
-use Rattle.hand_records.specs.declared.record.Record.{Record}
-use Rattle.hand_records.specs.declared.trace.Play.{Play}
-use Rattle.hand_records.specs.declared.writing.Keep.{Keep}
+use Rattle.hand_canon.specs.declared.record.Record.{Record}
+use Rattle.hand_canon.specs.declared.trace.Play.{Play}
+use Rattle.hand_canon.specs.declared.writing.Keep.{Keep}
 use Rattle.acpc_game.specs.declared.game.Game.{Game}
-use Rattle.acpc_writing.specs.Line.{log_text}
-use Rattle.acpc_writing.specs.Spelled.{unspelled}
-use Rattle.acpc_writing.specs.Texts.{HasTexts}
+use Rattle.acpc_format.specs.Line.{log_text}
+use Rattle.acpc_format.specs.Spelled.{unspelled}
+use Rattle.acpc_format.specs.Texts.{HasTexts}
 use Rattle.acpc_reading.specs.Logs.{HandSaid, reading}
 use Rattle.acpc_reading.specs.RecordView.{IsOfGame, record_said}
 use Rattle.acpc_game.specs.declared.fault.AcpcFault.{AcpcFault}
 use Rattle.acpc_format.specs.Again.{hand_again, hands_again}
 use Rattle.hand_canon.specs.ReadAgain.{AreAgain}
 use Rattle.acpc_format.specs.KeptNotes.{kept_in_acpc}
-use Rattle.hand_records.specs.SaidNotes.{KeepsNotes}
+use Rattle.hand_canon.specs.SaidNotes.{KeepsNotes}
 use Rattle.acpc_format.proofs.HandAgain.{hand_is}
 use Rattle.acpc_format.proofs.SoundReads.{sound_again}
-use Rattle.hand_records.proofs.Refusals.{none_refused}
-use Rattle.hand_records.specs.WriteRefusals.{refusal_from, first_refusal}
-use Rattle.hand_records.specs.Plays.{moves_written}
+use Rattle.hand_canon.proofs.Refusals.{none_refused}
+use Rattle.hand_canon.specs.WriteRefusals.{refusal_from, first_refusal}
+use Rattle.hand_canon.specs.Plays.{moves_written}
 
 all_again : (game : Game) (keep : Keep) (number place : ℕ) (plays : List Play) (records : List Record) → AllByRecursion IsSound plays → refusal_from (unspelled game keep) number plays ≡ None → AllByRecursion (IsOfGame game) records
     → map record_said records ≡ hands_again game.no_limit place plays → AreAgain (KeepsNotes kept_in_acpc) place plays records

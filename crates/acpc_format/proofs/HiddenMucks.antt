@@ -28,7 +28,7 @@ use Rattle.play_event.specs.Table.{places_of}
 use Rattle.play_event.specs.Trace.{TracedPlace, has_unknown_card, is_mucked, is_shown, traced_place, traced_places}
 use Rattle.play_event.specs.declared.setup.Rules.{Rules}
 use Rattle.play_event.specs.declared.setup.Setup.{Setup}
-use Rattle.acpc_writing.specs.PlayFacts.{has_unknown_hole_card, is_open_muck}
+use Rattle.acpc_format.specs.PlayFacts.{has_unknown_hole_card, is_open_muck}
 use Rattle.acpc_format.proofs.WithoutShows.{MucksHide}
 
 -- without draws no card is discarded

@@ -8,7 +8,7 @@ use Rattle.play_event.specs.declared.street.Size.{Size}
 use Rattle.play_event.specs.declared.street.Size.TheVariants as sizes
 use Rattle.play_event.specs.Games.{board_cards_on, flop_streets, hole_cards_on, street_count}
 use Rattle.play_event.specs.Streets.{has_draw}
-use Rattle.acpc_writing.specs.SetupFacts.{is_code_of}
+use Rattle.acpc_format.specs.SetupFacts.{is_code_of}
 
 -- two hole cards and no board first; then three, one and one cards of the board; and no draws
 pub record IsHoldem (code : Code) : Type 0 where

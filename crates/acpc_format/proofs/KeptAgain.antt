@@ -1,13 +1,13 @@
 -- The notes that are read again are those that a line can write.
 use Rattle.std.proofs.Common.{◌≡◌, ℕ, take, Bool, true, false, cond, bytes_eq, decimal, List, [], ◌∷◌, map, Option, Some, None, option_and_then, refl, sym, ap, ◌∙◌}
 use Rattle.acpc_format.specs.Again.{kept_hand, kept_name, name_again}
-use Rattle.acpc_writing.specs.Names.{is_spelled_hand}
+use Rattle.acpc_format.specs.Names.{is_spelled_hand}
 use Rattle.acpc_reading.specs.RecordView.{NotesNames}
 use Rattle.chip_ledger.specs.Seat.{seats_of}
-use Rattle.hand_records.specs.SaidNotes.{KeepsNotes, hand_name_noted, name_said, numbers_said, said_notes}
-use Rattle.hand_records.specs.declared.notes.Notes.{Notes}
+use Rattle.hand_canon.specs.SaidNotes.{KeepsNotes, hand_name_noted, name_said, numbers_said, said_notes}
+use Rattle.hand_canon.specs.declared.notes.Notes.{Notes}
 use Rattle.acpc_format.specs.KeptNotes.{kept_in_acpc, number_spelled}
-use Rattle.hand_records.proofs.NoteLaws.{names_along, notes_same}
+use Rattle.hand_canon.proofs.NoteLaws.{names_along, notes_same}
 
 -- what a line says again of the notes of `count` seats, at a place of its file
 pub record AreNamesAgain (place count : ℕ) (notes again : Notes) : Type 0 where

@@ -21,7 +21,7 @@ use Rattle.play_event.specs.declared.setup.Rules.{Rules}
 use Rattle.play_event.specs.declared.setup.Setup.{Setup}
 use Rattle.play_laws.proofs.MoveKinds.{call_said, fold_said, raise_said}
 use Rattle.play_laws.proofs.OneSpelling.{same_past, same_reason}
-use Rattle.acpc_writing.specs.Betting.{hand_total}
+use Rattle.acpc_format.specs.Betting.{hand_total}
 use Rattle.acpc_format.specs.Again.{move_again}
 use Rattle.canon_laws.proofs.RaiseUp.{named_in_turn, raise_up}
 use Rattle.canon_laws.proofs.SameEvents.{AreSame, IsNewest, IsSame, newest, one_more, same_moves}

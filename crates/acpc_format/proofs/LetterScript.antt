@@ -13,7 +13,7 @@ use Rattle.play_laws.proofs.DoneKept.{all_early}
 use Rattle.play_laws.specs.PastLaws.{AreReached}
 use Rattle.canon_laws.proofs.StreetMoves.{AreFalling, moves_split, own_moves, none_own}
 use Rattle.canon_laws.proofs.OtherWords.{all_streets, behind_both}
-use Rattle.acpc_writing.specs.Betting.{hand_total}
+use Rattle.acpc_format.specs.Betting.{hand_total}
 use Rattle.acpc_format.specs.Again.{move_again, moves_again, street_again}
 use Rattle.acpc_format.proofs.LetterEvents.{InLetters, letter, nothing, stays}
 

@@ -1,3 +1,14 @@
+-- Laws of what is written, and of what is read again.
+
+-- Laws of what is written.
+pub mod SeatTexts
+pub mod Totals
+pub mod Making
+pub mod Posting
+pub mod Letters
+pub mod Pieces
+pub mod Lines
+pub mod GameFiles
 -- Laws of what is read again.
 pub mod Readable
 pub mod Splits

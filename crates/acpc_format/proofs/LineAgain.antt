@@ -9,24 +9,24 @@ use Rattle.chip_ledger.specs.declared.numbers.TheConstants.{MOST_CHIPS}
 use Rattle.card_set.specs.Spelling.{spelling}
 use Rattle.play_event.specs.CanonScript.{dealt_slots, plain_move, plain_moves}
 use Rattle.hand_canon.specs.Agreement.{value_of}
-use Rattle.hand_records.specs.TraceRows.{core_said}
+use Rattle.hand_canon.specs.TraceRows.{core_said}
 use Rattle.first_fault.specs.declared.limits.TheConstants.{MOST_FILE_MOVES}
-use Rattle.hand_records.specs.declared.notes.Notes.{Notes}
-use Rattle.hand_records.specs.declared.trace.Play.{Play}
-use Rattle.hand_records.specs.declared.trace.Trace.{Trace}
+use Rattle.hand_canon.specs.declared.notes.Notes.{Notes}
+use Rattle.hand_canon.specs.declared.trace.Play.{Play}
+use Rattle.hand_canon.specs.declared.trace.Trace.{Trace}
 use Rattle.play_event.specs.Chips.{chips_put}
 use Rattle.play_event.specs.Past.{Act, BroughtIn, Called, Folded, Move, Raised}
 use Rattle.play_event.specs.Trace.{TracedMove, TracedPlace}
 use Rattle.play_event.specs.declared.setup.Setup.{Setup}
 use Rattle.acpc_game.specs.Parts.{parts_of}
 use Rattle.acpc_game.specs.declared.game.Game.{Game}
-use Rattle.acpc_writing.specs.Betting.{betting_text, hand_total}
-use Rattle.acpc_writing.specs.Cards.{board_text, boards_text, cards_text, hole_text, holes_text}
-use Rattle.acpc_writing.specs.Line.{end_text, head_text, line_text, play_text}
-use Rattle.acpc_writing.specs.Names.{hand_text, is_spelled_hand, is_spelled_name, may_stand, name_or_default, name_text, names_text}
-use Rattle.acpc_writing.specs.Rounds.{further_streets, has_board}
-use Rattle.acpc_writing.specs.Seats.{for_seats}
-use Rattle.acpc_writing.specs.Values.{value_text, values_text}
+use Rattle.acpc_format.specs.Betting.{betting_text, hand_total}
+use Rattle.acpc_format.specs.Cards.{board_text, boards_text, cards_text, hole_text, holes_text}
+use Rattle.acpc_format.specs.Line.{end_text, head_text, line_text, play_text}
+use Rattle.acpc_format.specs.Names.{hand_text, is_spelled_hand, is_spelled_name, may_stand, name_or_default, name_text, names_text}
+use Rattle.acpc_format.specs.Rounds.{further_streets, has_board}
+use Rattle.acpc_format.specs.Seats.{for_seats}
+use Rattle.acpc_format.specs.Values.{value_text, values_text}
 use Rattle.acpc_reading.specs.Betting.{betting_said, no_bets}
 use Rattle.acpc_reading.specs.Logs.{FieldsSaid, behind, hand_of, line_said, six_fields}
 use Rattle.acpc_reading.specs.Names.{names_said}
@@ -45,7 +45,7 @@ use Rattle.acpc_format.proofs.Signs.{cards_plain, decimal_plain, default_plain, 
 use Rattle.acpc_format.proofs.Splits.{Passes, cut, cut_seats, passes_both, passes_more, passes_none, passes_seats, passes_wider, whole}
 use Rattle.acpc_format.proofs.Steps.{all_steps, few_steps, moves_in, round_steps, step_of, step_on, step_text, steps_on, steps_text}
 use Rattle.chip_ledger.specs.SeatsSaid.{default_name}
-use Rattle.hand_records.specs.Plays.{moves_written}
+use Rattle.hand_canon.specs.Plays.{moves_written}
 
 -- ---- the letters of a play
 

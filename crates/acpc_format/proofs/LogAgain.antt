@@ -5,20 +5,20 @@ use Rattle.std.proofs.lemmas.Bool.{lt-leb}
 use Rattle.std.proofs.lemmas.List.{append-nil, length-append}
 use Rattle.std.proofs.lemmas.List.Sums.{sum_by-cons}
 use Rattle.first_fault.specs.declared.limits.TheConstants.{MOST_FILE_MOVES, MOST_HANDS}
-use Rattle.hand_records.specs.declared.trace.Play.{Play}
+use Rattle.hand_canon.specs.declared.trace.Play.{Play}
 use Rattle.first_fault.specs.Reading.{◌>>=◌}
 use Rattle.acpc_game.proofs.LineLaws.{line_and_more}
 use Rattle.acpc_game.specs.Parts.{lines_of, without_return}
 use Rattle.acpc_game.specs.declared.fault.AcpcFault.{AcpcFault}
 use Rattle.acpc_game.specs.declared.game.Game.{Game}
-use Rattle.acpc_writing.specs.Line.{lines_from, log_text}
+use Rattle.acpc_format.specs.Line.{lines_from, log_text}
 use Rattle.acpc_reading.specs.Logs.{HandSaid, Hands, hands_after, hands_after_line, is_passed_over, reading}
 use Rattle.acpc_format.specs.Again.{hand_again, hands_again}
 use Rattle.acpc_format.proofs.Readable.{IsReadable}
 use Rattle.acpc_format.proofs.LineAgain.{Fields, few_moves, fields_clear, fields_of, in_fields, inner_line, is_inner, line_is, line_read, steps_of}
 use Rattle.acpc_format.proofs.Splits.{Passes, cut, free}
 use Rattle.acpc_format.proofs.Steps.{moves_in}
-use Rattle.hand_records.specs.Plays.{moves_written}
+use Rattle.hand_canon.specs.Plays.{moves_written}
 
 -- the lines of plays without their newlines
 abbrev bare_lines : Bool → ℕ → List Play → List (List ℕ)

@@ -6,15 +6,15 @@ use Rattle.std.proofs.lemmas.Bool.Decides.{nat_tests}
 use Rattle.std.proofs.lemmas.List.{append-nil}
 use Rattle.std.proofs.lemmas.Slice.Eq.{bytes_eq-Decides}
 use Rattle.std.proofs.lemmas.Str.{is_utf8-from_IsUtf8}
-use Rattle.hand_records.specs.AllowedNotes.{AreAllowed, IsName}
+use Rattle.hand_canon.specs.AllowedNotes.{AreAllowed, IsName}
 use Rattle.first_fault.specs.declared.limits.TheConstants.{MOST_TEXT_BYTES}
-use Rattle.hand_records.specs.declared.notes.Notes.{Notes}
+use Rattle.hand_canon.specs.declared.notes.Notes.{Notes}
 use Rattle.acpc_game.specs.declared.fault.LineFault.{LineFault}
-use Rattle.acpc_writing.specs.Names.{is_spelled_name, name_or_default, name_text}
+use Rattle.acpc_format.specs.Names.{is_spelled_name, name_or_default, name_text}
 use Rattle.acpc_reading.specs.Names.{name_said, names_after}
 use Rattle.acpc_reading.proofs.UsualNames.{default_again}
 use Rattle.acpc_format.specs.Again.{kept_name, name_again}
-use Rattle.acpc_writing.specs.Texts.{AreTexts}
+use Rattle.acpc_format.specs.Texts.{AreTexts}
 use Rattle.chip_ledger.specs.SeatsSaid.{default_name}
 
 -- a name that is given and allowed reads as itself

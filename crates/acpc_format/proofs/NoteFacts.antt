@@ -5,36 +5,36 @@ use Rattle.std.specs.List.{list_any}
 use Rattle.std.proofs.lemmas.Bool.{cases_lt}
 use Rattle.acpc_format.specs.Again.{kept_name}
 use Rattle.acpc_game.specs.declared.game.Game.{Game}
-use Rattle.acpc_writing.specs.NoteFacts.{is_unspelled_hand, is_unspelled_name, plain_condition, text_conditions, time_conditions}
-use Rattle.acpc_writing.specs.Names.{is_spelled_hand, is_spelled_name}
-use Rattle.acpc_writing.specs.PlayFacts.{play_conditions}
-use Rattle.acpc_writing.specs.SetupFacts.{setup_conditions}
-use Rattle.acpc_writing.specs.Spelled.{unspelled, unspelled_note}
+use Rattle.acpc_format.specs.NoteFacts.{is_unspelled_hand, is_unspelled_name, plain_condition, text_conditions, time_conditions}
+use Rattle.acpc_format.specs.Names.{is_spelled_hand, is_spelled_name}
+use Rattle.acpc_format.specs.PlayFacts.{play_conditions}
+use Rattle.acpc_format.specs.SetupFacts.{setup_conditions}
+use Rattle.acpc_format.specs.Spelled.{unspelled, unspelled_note}
 use Rattle.chip_ledger.specs.Seat.{seats_of}
 use Rattle.first_fault.specs.Conditions.{first_where}
 use Rattle.first_fault.specs.declared.limits.TheConstants.{MOST_HANDS}
-use Rattle.hand_records.specs.SaidNotes.{SaidNotes, hand_name_noted, name_said, notes_of, numbers_said, said_notes}
+use Rattle.hand_canon.specs.SaidNotes.{SaidNotes, hand_name_noted, name_said, notes_of, numbers_said, said_notes}
 use Rattle.hand_canon.specs.Sound.{IsSound}
-use Rattle.hand_records.specs.AllowedNotes.{AreAllowed}
-use Rattle.hand_records.specs.NoteTable.{no_texts, text_names, texts_of}
-use Rattle.hand_records.specs.WriteRefusals.{or_behind}
-use Rattle.hand_records.specs.declared.notes.NoteName.TheVariants as names
-use Rattle.hand_records.specs.declared.notes.Notes.{Notes}
-use Rattle.hand_records.specs.declared.notes.TextNotes.{TextNotes}
-use Rattle.hand_records.specs.declared.trace.Play.{Play}
-use Rattle.hand_records.specs.declared.trace.Trace.{Trace}
-use Rattle.hand_records.specs.declared.writing.Keep.{Keep}
-use Rattle.hand_records.specs.declared.writing.Keep.TheVariants as keeps
-use Rattle.hand_records.specs.declared.writing.Unspelled.{Unspelled}
-use Rattle.hand_records.specs.declared.writing.Unspelled.TheVariants as facts
+use Rattle.hand_canon.specs.AllowedNotes.{AreAllowed}
+use Rattle.hand_canon.specs.NoteTable.{no_texts, text_names, texts_of}
+use Rattle.hand_canon.specs.WriteRefusals.{or_behind}
+use Rattle.hand_canon.specs.declared.notes.NoteName.TheVariants as names
+use Rattle.hand_canon.specs.declared.notes.Notes.{Notes}
+use Rattle.hand_canon.specs.declared.notes.TextNotes.{TextNotes}
+use Rattle.hand_canon.specs.declared.trace.Play.{Play}
+use Rattle.hand_canon.specs.declared.trace.Trace.{Trace}
+use Rattle.hand_canon.specs.declared.writing.Keep.{Keep}
+use Rattle.hand_canon.specs.declared.writing.Keep.TheVariants as keeps
+use Rattle.hand_canon.specs.declared.writing.Unspelled.{Unspelled}
+use Rattle.hand_canon.specs.declared.writing.Unspelled.TheVariants as facts
 use Rattle.play_event.specs.declared.setup.Setup.{Setup}
 use Rattle.acpc_format.proofs.OneForm.{hand_fact, numbers_some}
 use Rattle.acpc_format.specs.KeptNotes.{kept_in_acpc, number_spelled}
-use Rattle.hand_records.proofs.NoteLaws.{AreUnusual, all_alike, at_seat, fails_all, fails_at, notes_same, tests_alike}
-use Rattle.hand_records.proofs.NoteTexts as note_texts
-use Rattle.hand_records.specs.SameHands.{AreSameHand}
+use Rattle.hand_canon.proofs.NoteLaws.{AreUnusual, all_alike, at_seat, fails_all, fails_at, notes_same, tests_alike}
+use Rattle.hand_canon.proofs.NoteTexts as note_texts
+use Rattle.hand_canon.specs.SameHands.{AreSameHand}
 use Rattle.hand_canon.proofs.UnusualNumbers.{unusual}
-use Rattle.hand_records.proofs.Refusals.{both_none, none_both}
+use Rattle.hand_canon.proofs.Refusals.{both_none, none_both}
 use Rattle.acpc_format.proofs.SpelledFacts.{where_none}
 
 -- the notes of a sound play are those of the seats of its trace

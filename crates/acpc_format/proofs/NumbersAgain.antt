@@ -14,8 +14,8 @@ use Rattle.chip_ledger.specs.declared.seat_row.TheConstants.{MOST_AMOUNT}
 use Rattle.first_fault.specs.Digits.{are_digits, number_of}
 use Rattle.acpc_game.specs.Parts.{parts_of}
 use Rattle.acpc_game.specs.declared.fault.LineFault.{LineFault}
-use Rattle.acpc_writing.specs.Names.{hand_text, is_spelled_hand}
-use Rattle.acpc_writing.specs.Values.{value_text}
+use Rattle.acpc_format.specs.Names.{hand_text, is_spelled_hand}
+use Rattle.acpc_format.specs.Values.{value_text}
 use Rattle.acpc_reading.specs.Names.{hand_said, most_hand}
 use Rattle.acpc_reading.specs.Values.{unsigned_said, value_said, values_after, whole_said}
 use Rattle.acpc_format.specs.Again.{kept_hand}

@@ -11,36 +11,36 @@ use Rattle.acpc_format.proofs.SetupsSame.{setups_same}
 use Rattle.acpc_format.proofs.SoundReads.{sound_again}
 use Rattle.acpc_format.specs.Again.{hand_again, hands_again, kept_hand, kept_name, name_again, script_again}
 use Rattle.acpc_game.specs.declared.game.Game.{Game}
-use Rattle.acpc_writing.specs.Line.{end_text, head_text, line_text, lines_from, log_text, play_text}
-use Rattle.acpc_writing.specs.NoteFacts.{is_unspelled_hand}
-use Rattle.acpc_writing.specs.Names.{hand_text, is_spelled_hand, is_spelled_name, name_or_default, name_text, names_text}
-use Rattle.acpc_writing.specs.Seats.{bar_before}
-use Rattle.acpc_writing.specs.Spelled.{unspelled}
-use Rattle.acpc_writing.specs.Values.{values_text}
+use Rattle.acpc_format.specs.Line.{end_text, head_text, line_text, lines_from, log_text, play_text}
+use Rattle.acpc_format.specs.NoteFacts.{is_unspelled_hand}
+use Rattle.acpc_format.specs.Names.{hand_text, is_spelled_hand, is_spelled_name, name_or_default, name_text, names_text}
+use Rattle.acpc_format.specs.Seats.{bar_before}
+use Rattle.acpc_format.specs.Spelled.{unspelled}
+use Rattle.acpc_format.specs.Values.{values_text}
 use Rattle.acpc_reading.specs.Logs.{HandSaid, reading}
 use Rattle.acpc_reading.specs.RecordView.{rules_of}
 use Rattle.chip_ledger.specs.Seat.{seats_of}
 use Rattle.chip_ledger.specs.SeatsSaid.{default_name}
 use Rattle.first_fault.proofs.DecimalDigits.{decimal_digits}
 use Rattle.first_fault.specs.declared.limits.TheConstants.{MOST_FILE_MOVES, MOST_HANDS}
-use Rattle.hand_records.specs.SaidNotes.{SaidNotes, hand_name_noted, name_said, notes_of, numbers_said, said_notes}
+use Rattle.hand_canon.specs.SaidNotes.{SaidNotes, hand_name_noted, name_said, notes_of, numbers_said, said_notes}
 use Rattle.hand_canon.specs.Sound.{IsSound}
-use Rattle.hand_records.specs.WriteRefusals.{first_refusal, refusal_from}
-use Rattle.hand_records.proofs.Refusals.{none_refused}
-use Rattle.hand_records.specs.declared.notes.Notes.{Notes}
-use Rattle.hand_records.specs.declared.trace.Play.{Play}
-use Rattle.hand_records.specs.declared.trace.Trace.{Trace}
-use Rattle.hand_records.specs.declared.writing.Keep.{Keep}
+use Rattle.hand_canon.specs.WriteRefusals.{first_refusal, refusal_from}
+use Rattle.hand_canon.proofs.Refusals.{none_refused}
+use Rattle.hand_canon.specs.declared.notes.Notes.{Notes}
+use Rattle.hand_canon.specs.declared.trace.Play.{Play}
+use Rattle.hand_canon.specs.declared.trace.Trace.{Trace}
+use Rattle.hand_canon.specs.declared.writing.Keep.{Keep}
 use Rattle.card_set.proofs.NumbersOfRange.{flat_same}
 use Rattle.play_event.specs.Said.{Numbered}
 use Rattle.play_event.specs.ValidSetup.{IsValid}
 use Rattle.play_event.specs.declared.setup.Setup.{Setup}
 use Rattle.acpc_format.specs.KeptNotes.{kept_in_acpc, number_spelled}
-use Rattle.hand_records.proofs.NoteLaws.{AreUnusual, at_seat, notes_same, unusual_said}
+use Rattle.hand_canon.proofs.NoteLaws.{AreUnusual, at_seat, notes_same, unusual_said}
 use Rattle.trace_laws.proofs.SameWords.{one_trace}
-use Rattle.hand_records.specs.SameHands.{AllPaired, AreSameHand, AreSameHands}
-use Rattle.hand_records.specs.Plays.{moves_written}
-use Rattle.acpc_writing.specs.Texts.{HasTexts}
+use Rattle.hand_canon.specs.SameHands.{AllPaired, AreSameHand, AreSameHands}
+use Rattle.hand_canon.specs.Plays.{moves_written}
+use Rattle.acpc_format.specs.Texts.{HasTexts}
 use Rattle.acpc_format.proofs.KeptAgain.{hand_kept, kept_names}
 
 -- ---- names and numbers that are kept

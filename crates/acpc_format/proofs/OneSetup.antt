@@ -13,17 +13,17 @@ use Rattle.play_event.specs.declared.code.Code.TheVariants as codes
 use Rattle.play_event.specs.declared.setup.Setup.{Setup}
 use Rattle.play_event.specs.Streets.{is_stud}
 use Rattle.play_event.specs.ValidSetup.{IsSizeWhere, IsValid, has_antes}
-use Rattle.hand_records.specs.declared.trace.Play.{Play}
-use Rattle.hand_records.specs.declared.writing.Keep.{Keep}
+use Rattle.hand_canon.specs.declared.trace.Play.{Play}
+use Rattle.hand_canon.specs.declared.writing.Keep.{Keep}
 use Rattle.acpc_game.specs.declared.game.Game.{Game}
 use Rattle.acpc_game.specs.Games.{has_fitting_sizes}
-use Rattle.acpc_writing.specs.SetupFacts.{is_code_of}
-use Rattle.acpc_writing.specs.Spelled.{unspelled}
+use Rattle.acpc_format.specs.SetupFacts.{is_code_of}
+use Rattle.acpc_format.specs.Spelled.{unspelled}
 use Rattle.acpc_reading.specs.RecordView.{IsSetupOf, code_of}
 use Rattle.acpc_format.proofs.SpelledFacts.{HasSetupOf, spelled}
 use Rattle.card_set.proofs.Any.{zero_from_none}
 use Rattle.card_set.proofs.Entries.{index_taken_at}
-use Rattle.acpc_writing.proofs.Making.{HasSizes}
+use Rattle.acpc_format.proofs.Making.{HasSizes}
 
 -- the code of a game
 pub code_is : (no_limit : Bool) (code : Code) → is_code_of no_limit code ≡ true → code ≡ code_of no_limit

@@ -8,7 +8,7 @@ use Rattle.play_event.specs.Past.{Move}
 use Rattle.play_event.specs.declared.event.Spelled.TheVariants as spelled
 use Rattle.play_event.specs.declared.setup.Setup.{Setup}
 use Rattle.canon_laws.proofs.MoveRanges.{added_less, brought_less}
-use Rattle.acpc_writing.specs.Betting.{hand_total}
+use Rattle.acpc_format.specs.Betting.{hand_total}
 
 -- a raise adds the same chips to those of the hand and to those of the street
 pub same_target : (setup : Setup) (older : List Move) (move : Move) (street : ℕ) → move.from ≡ street_chips setup older street move.seat → move.from ≤ move.to

@@ -9,13 +9,13 @@ use Rattle.play_event.specs.Chips.{chips_put}
 use Rattle.play_event.specs.Past.{Move, moves_on}
 use Rattle.play_event.specs.Trace.{TracedPlace}
 use Rattle.play_event.specs.declared.setup.Setup.{Setup}
-use Rattle.hand_records.specs.AllowedNotes.{AreAllowed}
-use Rattle.hand_records.specs.TraceRows.{core_said}
-use Rattle.hand_records.specs.declared.trace.Play.{Play}
+use Rattle.hand_canon.specs.AllowedNotes.{AreAllowed}
+use Rattle.hand_canon.specs.TraceRows.{core_said}
+use Rattle.hand_canon.specs.declared.trace.Play.{Play}
 use Rattle.acpc_game.specs.declared.game.Game.{Game}
-use Rattle.acpc_writing.specs.PlayFacts.{is_part_known}
-use Rattle.acpc_writing.specs.Rounds.{has_board}
-use Rattle.acpc_writing.specs.Texts.{HasTexts}
+use Rattle.acpc_format.specs.PlayFacts.{is_part_known}
+use Rattle.acpc_format.specs.Rounds.{has_board}
+use Rattle.acpc_format.specs.Texts.{HasTexts}
 
 -- each of `count` seats is dealt two hole cards before the first round and none later, and both are
 -- known or both are not

@@ -41,21 +41,21 @@ use Rattle.play_event.specs.declared.played.Move as rows
 use Rattle.play_event.specs.declared.setup.Rules.{Rules}
 use Rattle.play_event.specs.declared.setup.Setup.{Setup}
 use Rattle.hand_canon.specs.LegalPlay.{IsTraceOfLegal}
-use Rattle.hand_records.specs.SoundRecord.{script_said}
-use Rattle.hand_records.specs.TraceRows.{core_said}
-use Rattle.hand_records.specs.declared.notes.Notes.{Notes}
-use Rattle.hand_records.specs.declared.record.Record.{Record}
-use Rattle.hand_records.specs.declared.trace.Play.{Play}
-use Rattle.hand_records.specs.declared.trace.Trace.{Trace}
-use Rattle.hand_records.specs.declared.writing.Keep.{Keep}
-use Rattle.hand_records.specs.declared.writing.Keep.TheVariants as keeps
-use Rattle.hand_records.specs.declared.writing.Unspelled.{Unspelled}
-use Rattle.hand_records.specs.declared.writing.Unspelled.TheVariants as facts
+use Rattle.hand_canon.specs.SoundRecord.{script_said}
+use Rattle.hand_canon.specs.TraceRows.{core_said}
+use Rattle.hand_canon.specs.declared.notes.Notes.{Notes}
+use Rattle.hand_canon.specs.declared.record.Record.{Record}
+use Rattle.hand_canon.specs.declared.trace.Play.{Play}
+use Rattle.hand_canon.specs.declared.trace.Trace.{Trace}
+use Rattle.hand_canon.specs.declared.writing.Keep.{Keep}
+use Rattle.hand_canon.specs.declared.writing.Keep.TheVariants as keeps
+use Rattle.hand_canon.specs.declared.writing.Unspelled.{Unspelled}
+use Rattle.hand_canon.specs.declared.writing.Unspelled.TheVariants as facts
 use Rattle.acpc_game.specs.declared.game.Game.{Game}
-use Rattle.acpc_writing.specs.NoteFacts.{text_conditions, time_conditions}
-use Rattle.acpc_writing.specs.PlayFacts.{has_unknown_hole_card, is_above_cap, is_above_caps, is_free_fold, is_off_unit, is_open_muck, is_part_known, is_raise_on, is_uneven, play_conditions}
-use Rattle.acpc_writing.specs.SetupFacts.{is_code_of, setup_conditions}
-use Rattle.acpc_writing.specs.Spelled.{unspelled, unspelled_note}
+use Rattle.acpc_format.specs.NoteFacts.{text_conditions, time_conditions}
+use Rattle.acpc_format.specs.PlayFacts.{has_unknown_hole_card, is_above_cap, is_above_caps, is_free_fold, is_off_unit, is_open_muck, is_part_known, is_raise_on, is_uneven, play_conditions}
+use Rattle.acpc_format.specs.SetupFacts.{is_code_of, setup_conditions}
+use Rattle.acpc_format.specs.Spelled.{unspelled, unspelled_note}
 use Rattle.acpc_reading.specs.Logs.{reading}
 use Rattle.acpc_reading.specs.RecordView.{IsOfGame, record_said, rules_of}
 use Rattle.acpc_format.proofs.GameSetups.{code_fits, setup_none}
@@ -66,7 +66,7 @@ use Rattle.acpc_format.proofs.LogPasts.{AreByUnit, all_whole, any_among, by_unit
 use Rattle.acpc_format.proofs.SuitsGame.{is_off, raises_said}
 use Rattle.card_set.proofs.Tests.{not_both_still, not_true}
 use Rattle.hand_canon.specs.Sharp.{IsOther, is_sharp}
-use Rattle.hand_records.specs.WriteRefusals.{or_behind}
+use Rattle.hand_canon.specs.WriteRefusals.{or_behind}
 use Rattle.first_fault.specs.Conditions.{first_where}
 
 -- ---- the play, fact by fact

@@ -7,7 +7,7 @@ use Rattle.std.proofs.lemmas.Str.Parse.{digit_from_value}
 use Rattle.card_set.specs.declared.card.Slot.{Slot}
 use Rattle.card_set.specs.declared.card.Slot.TheVariants as slots
 use Rattle.card_set.specs.Spelling.{rank_letter, slot_spelling, spelling, suit_letter}
-use Rattle.acpc_writing.specs.Names.{may_stand}
+use Rattle.acpc_format.specs.Names.{may_stand}
 use Rattle.card_set.proofs.Letters.{each_rank, each_suit}
 use Rattle.acpc_format.proofs.Splits.{Passes, passes_both, passes_more, passes_none}
 use Rattle.chip_ledger.specs.SeatsSaid.{default_name}

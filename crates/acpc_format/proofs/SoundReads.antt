@@ -22,19 +22,19 @@ use Rattle.play_event.specs.Said.{Said}
 use Rattle.play_event.specs.Scripts.{past_at_end, past_of}
 use Rattle.play_event.specs.Trace.{TracedPlace, traced_moves, traced_places}
 use Rattle.play_event.specs.ValidSetup.{IsValid}
-use Rattle.hand_records.specs.AllowedNotes.{AreAllowed}
+use Rattle.hand_canon.specs.AllowedNotes.{AreAllowed}
 use Rattle.hand_canon.specs.Sound.{IsSound}
-use Rattle.hand_records.specs.SoundRecord.{script_said}
-use Rattle.hand_records.specs.TraceRows.{core_said}
-use Rattle.hand_records.specs.declared.trace.Play.{Play}
+use Rattle.hand_canon.specs.SoundRecord.{script_said}
+use Rattle.hand_canon.specs.TraceRows.{core_said}
+use Rattle.hand_canon.specs.declared.trace.Play.{Play}
 use Rattle.first_fault.specs.declared.limits.TheConstants.{MOST_FILE_MOVES, MOST_HANDS}
-use Rattle.hand_records.specs.declared.writing.Keep.{Keep}
+use Rattle.hand_canon.specs.declared.writing.Keep.{Keep}
 use Rattle.acpc_game.specs.declared.game.Game.{Game}
-use Rattle.acpc_writing.specs.Line.{log_text}
-use Rattle.acpc_writing.specs.PlayFacts.{is_part_known}
-use Rattle.acpc_writing.specs.Rounds.{has_board}
-use Rattle.acpc_writing.specs.Spelled.{unspelled}
-use Rattle.acpc_writing.specs.Texts.{HasTexts}
+use Rattle.acpc_format.specs.Line.{log_text}
+use Rattle.acpc_format.specs.PlayFacts.{is_part_known}
+use Rattle.acpc_format.specs.Rounds.{has_board}
+use Rattle.acpc_format.specs.Spelled.{unspelled}
+use Rattle.acpc_format.specs.Texts.{HasTexts}
 use Rattle.acpc_format.proofs.Readable.{HasBoards, HasLetters, IsReadable}
 use Rattle.acpc_reading.specs.Logs.{reading}
 use Rattle.acpc_format.specs.Again.{hands_again}
@@ -44,10 +44,10 @@ use Rattle.acpc_format.proofs.Holdem.{IsHoldem, holdem}
 use Rattle.acpc_format.proofs.SpelledFacts.{spelled}
 use Rattle.canon_laws.proofs.StreetsPlayed.{HasStreet, board_known, came_before, first_holes, four_streets, is_passed, few_on_board}
 use Rattle.card_set.proofs.Lists.{none_from_length}
-use Rattle.hand_records.proofs.Refusals.{none_refused}
+use Rattle.hand_canon.proofs.Refusals.{none_refused}
 use Rattle.play_event.proofs.ScriptLaws.{at_end}
-use Rattle.hand_records.specs.WriteRefusals.{refusal_from, first_refusal}
-use Rattle.hand_records.specs.Plays.{moves_written}
+use Rattle.hand_canon.specs.WriteRefusals.{refusal_from, first_refusal}
+use Rattle.hand_canon.specs.Plays.{moves_written}
 
 -- cards of the board, and whether there are some
 board_there : (placed : List TracedPlace) (street : ℕ) → 1 ≤ length (dealt_slots placed None street) → has_board placed street ≡ true

@@ -4,21 +4,21 @@ use Rattle.std.specs.List.{list_any}
 use Rattle.std.proofs.lemmas.Bool.{eqb-true}
 use Rattle.chip_ledger.specs.Seat.{seats_of}
 use Rattle.play_event.specs.declared.setup.Setup.{Setup}
-use Rattle.hand_records.specs.TraceRows.{core_said}
-use Rattle.hand_records.specs.declared.trace.Play.{Play}
-use Rattle.hand_records.specs.declared.trace.Trace.{Trace}
-use Rattle.hand_records.specs.declared.writing.Keep.{Keep}
-use Rattle.hand_records.specs.declared.writing.Unspelled.{Unspelled}
-use Rattle.hand_records.specs.declared.writing.Unspelled.TheVariants as facts
+use Rattle.hand_canon.specs.TraceRows.{core_said}
+use Rattle.hand_canon.specs.declared.trace.Play.{Play}
+use Rattle.hand_canon.specs.declared.trace.Trace.{Trace}
+use Rattle.hand_canon.specs.declared.writing.Keep.{Keep}
+use Rattle.hand_canon.specs.declared.writing.Unspelled.{Unspelled}
+use Rattle.hand_canon.specs.declared.writing.Unspelled.TheVariants as facts
 use Rattle.acpc_game.specs.declared.game.Game.{Game}
-use Rattle.acpc_writing.specs.PlayFacts.{is_above_caps, is_free_fold, is_off_unit, is_open_muck, is_part_known, play_conditions}
-use Rattle.acpc_writing.specs.SetupFacts.{has_sizes_of, is_code_of, setup_conditions}
-use Rattle.acpc_writing.specs.Spelled.{unspelled, unspelled_note}
+use Rattle.acpc_format.specs.PlayFacts.{is_above_caps, is_free_fold, is_off_unit, is_open_muck, is_part_known, play_conditions}
+use Rattle.acpc_format.specs.SetupFacts.{has_sizes_of, is_code_of, setup_conditions}
+use Rattle.acpc_format.specs.Spelled.{unspelled, unspelled_note}
 use Rattle.card_set.proofs.Options.{from_some_none}
 use Rattle.card_set.proofs.Tests.{not_not}
 use Rattle.chip_ledger.specs.SeatRow.{amounts_in}
-use Rattle.hand_records.proofs.Refusals.{both_none}
-use Rattle.hand_records.specs.WriteRefusals.{or_behind}
+use Rattle.hand_canon.proofs.Refusals.{both_none}
+use Rattle.hand_canon.specs.WriteRefusals.{or_behind}
 use Rattle.first_fault.specs.Conditions.{first_where}
 
 -- the setup has what the game has

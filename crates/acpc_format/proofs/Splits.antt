@@ -5,7 +5,7 @@ use Rattle.std.proofs.lemmas.Bool.{and_parts, eq-eqb, lt-ltb}
 use Rattle.std.proofs.lemmas.List.{append-nil}
 use Rattle.std.proofs.lemmas.List.Splits.{slice_split_at, slice_split_none}
 use Rattle.acpc_game.specs.Parts.{parts_of}
-use Rattle.acpc_writing.specs.Seats.{bar_before, for_seats}
+use Rattle.acpc_format.specs.Seats.{bar_before, for_seats}
 use Rattle.card_set.proofs.Entries.{never_at}
 use Rattle.card_set.proofs.Tests.{both_true}
 

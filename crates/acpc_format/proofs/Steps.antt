@@ -8,8 +8,8 @@ use Rattle.std.proofs.lemmas.List.{append-nil}
 use Rattle.play_event.specs.Past.{Act, BroughtIn, Called, Folded, Move, Raised}
 use Rattle.play_event.specs.Trace.{TracedPlace}
 use Rattle.play_event.specs.declared.setup.Setup.{Setup}
-use Rattle.acpc_writing.specs.Betting.{betting_text, hand_total, letter, letters_on, round_text}
-use Rattle.acpc_writing.specs.Rounds.{further_streets, has_board}
+use Rattle.acpc_format.specs.Betting.{betting_text, hand_total, letter, letters_on, round_text}
+use Rattle.acpc_format.specs.Rounds.{further_streets, has_board}
 use Rattle.acpc_reading.specs.declared.step.BettingStep.{BettingStep}
 use Rattle.acpc_reading.specs.declared.step.BettingStep.TheVariants as steps
 

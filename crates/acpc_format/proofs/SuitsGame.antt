@@ -29,10 +29,10 @@ use Rattle.play_event.specs.declared.setup.Rules.{Rules}
 use Rattle.play_event.specs.declared.setup.Setup.{Setup}
 use Rattle.play_laws.proofs.FittingPasts.{legal_moves}
 use Rattle.play_laws.proofs.MovesLaw.{MovesLaw}
-use Rattle.hand_records.specs.TraceRows.{core_said}
-use Rattle.hand_records.specs.declared.trace.Trace.{Trace}
+use Rattle.hand_canon.specs.TraceRows.{core_said}
+use Rattle.hand_canon.specs.declared.trace.Trace.{Trace}
 use Rattle.acpc_game.specs.declared.game.Game.{Game}
-use Rattle.acpc_writing.specs.PlayFacts.{is_above_cap, is_above_caps, is_off_unit, is_raise_on}
+use Rattle.acpc_format.specs.PlayFacts.{is_above_cap, is_above_caps, is_off_unit, is_raise_on}
 use Rattle.acpc_reading.specs.RecordView.{rules_of}
 use Rattle.acpc_format.proofs.LetterEvents.{HaveLetters}
 use Rattle.acpc_format.proofs.SpelledFacts.{HasPlayOf}

@@ -5,10 +5,10 @@ use Rattle.std.specs.Option.{option_map_or}
 use Rattle.std.proofs.lemmas.List.{get_or-take, length-map, length-take-le}
 use Rattle.std.proofs.lemmas.List.FromFn.{length-range_with_len}
 use Rattle.play_event.specs.Seats.{all_seats}
-use Rattle.hand_records.specs.NetRow.{net_of}
-use Rattle.hand_records.specs.declared.record.NetRow.{NetRow}
-use Rattle.hand_records.specs.declared.record.Stated.{Stated}
-use Rattle.hand_records.specs.declared.trace.Trace.{Trace}
+use Rattle.hand_canon.specs.NetRow.{net_of}
+use Rattle.hand_canon.specs.declared.record.NetRow.{NetRow}
+use Rattle.hand_canon.specs.declared.record.Stated.{Stated}
+use Rattle.hand_canon.specs.declared.trace.Trace.{Trace}
 use Rattle.hand_canon.specs.Agreement.{Comparison, finish_compared, first_difference, is_different, seats_compared, total_compared, value_compared, value_of, win_compared}
 use Rattle.acpc_reading.specs.RecordView.{StatesValues}
 use Rattle.acpc_reading.specs.Views.{nets_in}

@@ -12,12 +12,12 @@ use Rattle.play_event.specs.Trace.{TracedPlace}
 use Rattle.play_event.specs.CanonScript.{deals_said, plain_moves}
 use Rattle.play_event.specs.PlayedScript.{is_move}
 use Rattle.hand_canon.specs.Agreement.{value_of}
-use Rattle.hand_records.specs.TraceRows.{core_said}
-use Rattle.hand_records.specs.declared.notes.Notes.{Notes}
-use Rattle.hand_records.specs.declared.trace.Play.{Play}
-use Rattle.hand_records.specs.declared.trace.Trace.{Trace}
-use Rattle.acpc_writing.specs.Betting.{hand_total}
-use Rattle.acpc_writing.specs.Names.{is_spelled_hand, is_spelled_name}
+use Rattle.hand_canon.specs.TraceRows.{core_said}
+use Rattle.hand_canon.specs.declared.notes.Notes.{Notes}
+use Rattle.hand_canon.specs.declared.trace.Play.{Play}
+use Rattle.hand_canon.specs.declared.trace.Trace.{Trace}
+use Rattle.acpc_format.specs.Betting.{hand_total}
+use Rattle.acpc_format.specs.Names.{is_spelled_hand, is_spelled_name}
 use Rattle.acpc_reading.specs.Logs.{HandSaid}
 use Rattle.first_fault.specs.Numbers.{saturated}
 

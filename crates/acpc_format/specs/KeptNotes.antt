@@ -1,9 +1,9 @@
 -- Which notes a log keeps: player names and hand numbers that a line can write.
 use Rattle.std.specs.Prelude.{ℕ, List, map, Option, Some, None, if◌then◌else◌, option_and_then}
 use Rattle.acpc_format.specs.Again.{kept_name}
-use Rattle.acpc_writing.specs.Names.{is_spelled_hand}
-use Rattle.hand_records.specs.NoteTable.{no_texts}
-use Rattle.hand_records.specs.SaidNotes.{SaidNotes}
+use Rattle.acpc_format.specs.Names.{is_spelled_hand}
+use Rattle.hand_canon.specs.NoteTable.{no_texts}
+use Rattle.hand_canon.specs.SaidNotes.{SaidNotes}
 
 -- the hand number if a line can write it, else none
 abbrev pub number_spelled : List ℕ → Option (List ℕ)

@@ -4,23 +4,23 @@ ghost use Rattle.std.specs.List.{AllByRecursion};
 ghost use Rattle.play_event.specs.ValidSetup.{IsValid};
 ghost use Rattle.hand_canon.specs.Sound.{IsSound};
 ghost use Rattle.first_fault.specs.declared.limits.TheConstants.{MOST_FILE_MOVES, MOST_HANDS};
-ghost use Rattle.hand_records.specs.declared.record.Record.{Record};
-ghost use Rattle.hand_records.specs.declared.trace.Play.{Play};
-ghost use Rattle.hand_records.specs.declared.writing.Keep.{Keep};
-ghost use Rattle.hand_records.specs.declared.writing.Unspelled.{Unspelled};
+ghost use Rattle.hand_canon.specs.declared.record.Record.{Record};
+ghost use Rattle.hand_canon.specs.declared.trace.Play.{Play};
+ghost use Rattle.hand_canon.specs.declared.writing.Keep.{Keep};
+ghost use Rattle.hand_canon.specs.declared.writing.Unspelled.{Unspelled};
 ghost use Rattle.acpc_game.specs.declared.game.Game.{Game as AnyGame};
-ghost use Rattle.acpc_writing.specs.Line.{log_text};
-ghost use Rattle.acpc_writing.specs.Spelled.{unspelled};
-ghost use Rattle.acpc_writing.specs.Texts.{HasTexts};
+ghost use Rattle.acpc_format.specs.Line.{log_text};
+ghost use Rattle.acpc_format.specs.Spelled.{unspelled};
+ghost use Rattle.acpc_format.specs.Texts.{HasTexts};
 ghost use Rattle.acpc_reading.specs.Logs.{reading};
 ghost use Rattle.acpc_reading.specs.RecordView.{IsOfGame, IsSetupOf, record_said};
 ghost use Rattle.acpc_format.specs.Again.{hands_again};
 ghost use Rattle.hand_canon.specs.ReadAgain.{AreAgain};
-ghost use Rattle.hand_records.specs.SaidNotes.{KeepsNotes};
+ghost use Rattle.hand_canon.specs.SaidNotes.{KeepsNotes};
 ghost use Rattle.acpc_format.specs.KeptNotes.{kept_in_acpc};
 ghost use Rattle.hand_canon.specs.Sharp.{IsOther, is_sharp};
-ghost use Rattle.hand_records.specs.WriteRefusals.{first_refusal};
-ghost use Rattle.hand_records.specs.Plays.{moves_written};
+ghost use Rattle.hand_canon.specs.WriteRefusals.{first_refusal};
+ghost use Rattle.hand_canon.specs.Plays.{moves_written};
 
 /// If the logs of a game can write sound plays, their lines read back as the hands of these plays:
 /// with their canonical scripts in the log's letters, their values and their kept notes. The

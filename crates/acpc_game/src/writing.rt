@@ -61,7 +61,12 @@ fn push_counts(alloc: Global, out: &mut Vec<u8>, players: u64) -> Result<(), Mem
 
 // The lines with the stacks and the blinds.
 #[tactic(auto, unfolding(crate::specs::GameText::seat_lines))]
-fn push_seat_lines(alloc: Global, out: &mut Vec<u8>, stacks: &[u64], blinds: &[u64]) -> Result<(), Memory>
+fn push_seat_lines(
+    alloc: Global,
+    out: &mut Vec<u8>,
+    stacks: &[u64],
+    blinds: &[u64],
+) -> Result<(), Memory>
     ensures { OnOk result (out.new.items ≡ out.old.items ++ seat_lines stacks.now blinds.now) }
 {
     push_line(alloc, out, "stack", stacks)?;

@@ -4,17 +4,17 @@ use Rattle.std.proofs.lemmas.List.Sums.{sum_by_push}
 use Rattle.card_set.proofs.Entries.{all_push}
 use Rattle.play_event.specs.PlayedScript.{IsWithinLimits}
 use Rattle.first_fault.specs.declared.limits.TheConstants.{MOST_FILE_MOVES, MOST_HANDS}
-use Rattle.hand_records.specs.declared.notes.Notes.{Notes}
-use Rattle.hand_records.specs.declared.record.Record.{Record}
-use Rattle.hand_records.specs.declared.record.NetRow.{NetRow}
-use Rattle.hand_records.specs.AllowedNotes.{AreAllowed, IsName, IsNoteText}
-use Rattle.hand_records.specs.NoteTable.{texts_of}
-use Rattle.hand_records.proofs.NoteTexts.{none_allowed}
-use Rattle.hand_records.specs.SoundRecord.{script_said, IsSoundRecord}
+use Rattle.hand_canon.specs.declared.notes.Notes.{Notes}
+use Rattle.hand_canon.specs.declared.record.Record.{Record}
+use Rattle.hand_canon.specs.declared.record.NetRow.{NetRow}
+use Rattle.hand_canon.specs.AllowedNotes.{AreAllowed, IsName, IsNoteText}
+use Rattle.hand_canon.specs.NoteTable.{texts_of}
+use Rattle.hand_canon.proofs.NoteTexts.{none_allowed}
+use Rattle.hand_canon.specs.SoundRecord.{script_said, IsSoundRecord}
 use Rattle.acpc_game.specs.declared.game.Game.{Game}
 use Rattle.acpc_reading.specs.RecordView.{AreOfGame, IsOfGame, IsSetupOf, NotesNames, StatesValues}
 use Rattle.acpc_reading.proofs.MatchSetups.{setup_valid}
-use Rattle.hand_records.specs.Moves.{moves_of}
+use Rattle.hand_canon.specs.Moves.{moves_of}
 
 -- names and a number that are allowed as notes
 notes_allowed : (players : ℕ) (notes : Notes) → NotesNames notes

@@ -12,15 +12,15 @@ use Rattle.play_event.specs.declared.setup.Rules.{Rules}
 use Rattle.play_event.specs.declared.setup.Reopen.TheVariants as reopen
 use Rattle.play_event.specs.Said.{numbered}
 use Rattle.first_fault.specs.declared.limits.TheConstants.{MOST_FILE_MOVES, MOST_HANDS}
-use Rattle.hand_records.specs.NoteTable.{no_texts, texts_of}
-use Rattle.hand_records.specs.declared.notes.Notes.{Notes}
-use Rattle.hand_records.specs.declared.record.Record.{Record}
-use Rattle.hand_records.specs.declared.record.Stated.{Stated}
-use Rattle.hand_records.specs.SoundRecord.{IsSoundRecord}
+use Rattle.hand_canon.specs.NoteTable.{no_texts, texts_of}
+use Rattle.hand_canon.specs.declared.notes.Notes.{Notes}
+use Rattle.hand_canon.specs.declared.record.Record.{Record}
+use Rattle.hand_canon.specs.declared.record.Stated.{Stated}
+use Rattle.hand_canon.specs.SoundRecord.{IsSoundRecord}
 use Rattle.acpc_game.specs.declared.game.Game.{Game}
 use Rattle.acpc_reading.specs.Logs.{HandSaid}
 use Rattle.acpc_reading.specs.Views.{nets_in}
-use Rattle.hand_records.specs.Moves.{moves_of}
+use Rattle.hand_canon.specs.Moves.{moves_of}
 
 -- a record as the hand that a line says
 abbrev pub record_said : Record → HandSaid

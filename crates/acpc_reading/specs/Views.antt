@@ -1,6 +1,6 @@
 -- What the code has read, as the definitions see it.
 use Rattle.std.specs.Prelude.{List, take, ℤ}
-use Rattle.hand_records.specs.declared.record.NetRow.{NetRow}
+use Rattle.hand_canon.specs.declared.record.NetRow.{NetRow}
 use Rattle.acpc_reading.specs.declared.betting.ReadBetting.{ReadBetting}
 use Rattle.acpc_reading.specs.Betting.{Bets}
 

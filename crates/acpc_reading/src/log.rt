@@ -7,7 +7,7 @@ ghost use Rattle.acpc_game.specs.Faults.{Answers};
 ghost use Rattle.acpc_reading.specs.Logs.{hands_after_line, line_said, reading, with_hand};
 ghost use Rattle.acpc_reading.specs.Logs as logs;
 ghost use Rattle.acpc_reading.specs.RecordView.{AreOfGame, IsOfGame, record_said};
-ghost use Rattle.hand_records.specs.Moves.{moves_of};
+ghost use Rattle.hand_canon.specs.Moves.{moves_of};
 
 use crate::betting::ReadBetting;
 use crate::cutting::cut_fields;
@@ -18,7 +18,7 @@ use crate::script::read_script;
 use crate::values::read_values;
 use acpc_game::{AcpcFault, Game, LineFault, LineFaultKind, fault_in_line, has_prefix, next_line};
 use first_fault::{MOST_HANDS, Quantity, ReadError};
-use hand_records::Records;
+use hand_canon::Records;
 use std::alloc::Global;
 
 // Few lines of hands are shorter than this, in bytes.

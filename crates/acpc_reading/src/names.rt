@@ -2,7 +2,7 @@
 ghost use Rattle.std.specs.Prelude.{◌≡◌, ℕ, ◌≤◌, ◌<◌, ◌+◌, ◌-◌, ◌^◌, ◌==◌, ◌||◌, length, take, bytes_eq, slice_index_or, is_some, None, IfOk, IfSome};
 ghost use Rattle.std.specs.Str.{is_utf8};
 ghost use Rattle.first_fault.specs.Reading.{Gives};
-ghost use Rattle.hand_records.specs.AllowedNotes.{IsName, IsNoteText};
+ghost use Rattle.hand_canon.specs.AllowedNotes.{IsName, IsNoteText};
 ghost use Rattle.acpc_reading.specs.Names.{hand_said, name_said, names_said};
 ghost use Rattle.chip_ledger.specs.SeatsSaid.{default_name};
 

@@ -1,7 +1,7 @@
 //! Makes a record of what a line says of a hand and of the setup and rules of its game.
 ghost use Rattle.std.specs.Prelude.{◌≡◌, ℕ, ◌-◌, ◌≤◌, None, map, take, slice_index_or, IfSome};
 ghost use Rattle.play_event.specs.PlayedScript.{IsWithinLimits};
-ghost use Rattle.hand_records.specs.AllowedNotes.{IsName, IsNoteText};
+ghost use Rattle.hand_canon.specs.AllowedNotes.{IsName, IsNoteText};
 ghost use Rattle.play_event.specs.Said.{numbered, said_of};
 ghost use Rattle.acpc_reading.specs.RecordView.{IsOfGame, NotesNames, StatesValues, record_said};
 ghost use Rattle.acpc_reading.specs.Views.{nets_in};
@@ -9,7 +9,7 @@ ghost use Rattle.acpc_reading.specs.Views.{nets_in};
 use crate::setup::{rules_of, setup_of};
 use acpc_game::Game;
 use first_fault::Text;
-use hand_records::{NetRow, Notes, Record, Stated};
+use hand_canon::{NetRow, Notes, Record, Stated};
 use play_event::Script;
 
 /// The record of a hand of the game.

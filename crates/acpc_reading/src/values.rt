@@ -12,7 +12,7 @@ use crate::parts::next_part;
 use acpc_game::{LineFault, LineFaultKind, count_parts, cut_at, cut_first};
 use chip_ledger::MOST_AMOUNT;
 use first_fault::{ReadError, are_digits, read_digits};
-use hand_records::NetRow;
+use hand_canon::NetRow;
 
 /// The values field, which begins at this byte, of a hand with `players` players.
 #[tactic(auto, unfolding(crate::specs::Values::values_said))]

@@ -19,14 +19,14 @@ use Rattle.play_event.specs.Played.{move_said}
 use Rattle.play_event.proofs.OwnerLaws.{is_same_owner-true}
 use Rattle.play_event.specs.CanonScript.{dealt_slots, is_dealt_to, plain_moves}
 use Rattle.play_event.specs.TraceCore.{TraceCore}
-use Rattle.hand_records.specs.TraceRows.{core_said}
-use Rattle.hand_records.specs.declared.trace.Play.{Play}
-use Rattle.hand_records.specs.declared.trace.Trace.{Trace}
-use Rattle.acpc_writing.specs.Betting.{betting_text, letters_on, round_text}
-use Rattle.acpc_writing.specs.Cards.{board_text, boards_text, cards_text, hole_text, holes_text}
-use Rattle.acpc_writing.specs.Names.{hand_text}
-use Rattle.acpc_writing.specs.Rounds.{behind_stroke, has_board}
-use Rattle.acpc_writing.specs.Seats.{bar_before, for_seats}
+use Rattle.hand_canon.specs.TraceRows.{core_said}
+use Rattle.hand_canon.specs.declared.trace.Play.{Play}
+use Rattle.hand_canon.specs.declared.trace.Trace.{Trace}
+use Rattle.acpc_format.specs.Betting.{betting_text, letters_on, round_text}
+use Rattle.acpc_format.specs.Cards.{board_text, boards_text, cards_text, hole_text, holes_text}
+use Rattle.acpc_format.specs.Names.{hand_text}
+use Rattle.acpc_format.specs.Rounds.{behind_stroke, has_board}
+use Rattle.acpc_format.specs.Seats.{bar_before, for_seats}
 use Rattle.acpc_view.specs.Known.{AreAlikeTo, board_begun}
 use Rattle.acpc_view.specs.View.{has_begun, head_text, is_at_end, is_seen_by, seen_places, seen_text, sees_seat, view_line}
 

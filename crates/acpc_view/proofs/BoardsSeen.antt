@@ -25,7 +25,7 @@ use Rattle.play_laws.proofs.LegalCards.{at_street}
 use Rattle.play_event.specs.CanonScript.{dealt_slots, is_dealt_to}
 use Rattle.canon_laws.proofs.TraceOrder.{the_board}
 use Rattle.canon_laws.proofs.StreetDeals.{group_is}
-use Rattle.acpc_writing.specs.Rounds.{has_board}
+use Rattle.acpc_format.specs.Rounds.{has_board}
 use Rattle.acpc_view.specs.View.{has_begun}
 use Rattle.acpc_view.proofs.Boards.{boards_before}
 

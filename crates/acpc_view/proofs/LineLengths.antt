@@ -15,22 +15,22 @@ use Rattle.play_event.specs.TraceCore.{TraceCore}
 use Rattle.play_event.specs.Tidy.{IsTidy}
 use Rattle.canon_laws.proofs.MoveCounts.{tidy_within}
 use Rattle.hand_canon.specs.Sound.{IsSound}
-use Rattle.hand_records.specs.SoundRecord.{script_said}
-use Rattle.hand_records.specs.TraceRows.{core_said}
-use Rattle.hand_records.specs.declared.trace.Play.{Play}
+use Rattle.hand_canon.specs.SoundRecord.{script_said}
+use Rattle.hand_canon.specs.TraceRows.{core_said}
+use Rattle.hand_canon.specs.declared.trace.Play.{Play}
 use Rattle.play_event.specs.Played.{move_said}
-use Rattle.acpc_writing.specs.Betting.{betting_text, letters_on, round_text, letter_on}
-use Rattle.acpc_writing.specs.Cards.{board_text, boards_text, cards_text, hole_text, holes_text}
-use Rattle.acpc_writing.specs.Rounds.{behind_stroke, has_board}
-use Rattle.acpc_writing.proofs.Totals.{sound_few}
+use Rattle.acpc_format.specs.Betting.{betting_text, letters_on, round_text, letter_on}
+use Rattle.acpc_format.specs.Cards.{board_text, boards_text, cards_text, hole_text, holes_text}
+use Rattle.acpc_format.specs.Rounds.{behind_stroke, has_board}
+use Rattle.acpc_format.proofs.Totals.{sound_few}
 use Rattle.first_fault.specs.Digits.{are_digits}
-use Rattle.acpc_writing.specs.Names.{hand_text, is_spelled_hand}
-use Rattle.acpc_writing.specs.Seats.{bar_before, for_seats}
-use Rattle.acpc_writing.specs.Puts.{HavePut}
-use Rattle.acpc_writing.proofs.Letters.{letter_next}
+use Rattle.acpc_format.specs.Names.{hand_text, is_spelled_hand}
+use Rattle.acpc_format.specs.Seats.{bar_before, for_seats}
+use Rattle.acpc_format.specs.Puts.{HavePut}
+use Rattle.acpc_format.proofs.Letters.{letter_next}
 use Rattle.chip_ledger.specs.Seat.{seats_of}
 use Rattle.hand_canon.proofs.OneByOne.{flat_more}
-use Rattle.hand_records.specs.declared.trace.Trace.{Trace}
+use Rattle.hand_canon.specs.declared.trace.Trace.{Trace}
 use Rattle.play_event.specs.declared.played.Move as rows
 use Rattle.acpc_view.specs.Lengths.{IsShort, hole_of, seen_by}
 use Rattle.acpc_view.proofs.Writing.{line_more}

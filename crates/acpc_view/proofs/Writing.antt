@@ -4,16 +4,16 @@ use Rattle.std.specs.List.{flat_map, range_with_len}
 use Rattle.std.proofs.lemmas.Grind.{flat_map-append}
 use Rattle.std.proofs.lemmas.List.{append-nil, drop_more, map-append, take-map}
 use Rattle.play_event.specs.CanonScript.{plain_moves}
-use Rattle.hand_records.specs.TraceRows.{core_said, place_said}
-use Rattle.hand_records.specs.declared.trace.Trace.{Trace}
+use Rattle.hand_canon.specs.TraceRows.{core_said, place_said}
+use Rattle.hand_canon.specs.declared.trace.Trace.{Trace}
 use Rattle.play_event.specs.Played.{move_said}
 use Rattle.play_event.specs.Trace.{TracedMove, TracedPlace}
 use Rattle.play_event.specs.declared.played.Move.{Move}
 use Rattle.play_event.specs.declared.played.Place.{Place}
-use Rattle.acpc_writing.specs.Betting.{betting_text}
-use Rattle.acpc_writing.specs.Cards.{cards_text}
-use Rattle.acpc_writing.specs.Puts.{HaveFewChips}
-use Rattle.acpc_writing.proofs.Totals.{few_so_far}
+use Rattle.acpc_format.specs.Betting.{betting_text}
+use Rattle.acpc_format.specs.Cards.{cards_text}
+use Rattle.acpc_format.specs.Puts.{HaveFewChips}
+use Rattle.acpc_format.proofs.Totals.{few_so_far}
 use Rattle.acpc_view.specs.View.{seen_places, seen_text}
 
 -- the first moves put no more chips than all moves

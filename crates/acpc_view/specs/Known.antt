@@ -2,12 +2,12 @@
 -- then.
 use Rattle.std.specs.Prelude.{◌≡◌, ◌<◌, ◌≤◌, ℕ, if◌then◌else◌, List, take, length, Option, Some, None}
 use Rattle.card_set.specs.declared.card.Slot.{Slot}
-use Rattle.acpc_writing.specs.Names.{hand_text}
-use Rattle.acpc_writing.specs.Rounds.{has_board}
+use Rattle.acpc_format.specs.Names.{hand_text}
+use Rattle.acpc_format.specs.Rounds.{has_board}
 use Rattle.play_event.specs.CanonScript.{dealt_slots}
 use Rattle.play_event.specs.TraceCore.{TraceCore}
-use Rattle.hand_records.specs.TraceRows.{core_said}
-use Rattle.hand_records.specs.declared.trace.Play.{Play}
+use Rattle.hand_canon.specs.TraceRows.{core_said}
+use Rattle.hand_canon.specs.declared.trace.Play.{Play}
 use Rattle.acpc_view.specs.View.{has_begun}
 
 -- the board of a street, if the trace has it

@@ -4,12 +4,12 @@ use Rattle.std.specs.List.{list_any}
 use Rattle.card_set.specs.declared.card.Slot.{Slot}
 use Rattle.card_set.specs.Known.{is_unknown}
 use Rattle.card_set.specs.Spelling.{spelling}
-use Rattle.acpc_writing.specs.Puts.{HaveFewChips}
+use Rattle.acpc_format.specs.Puts.{HaveFewChips}
 use Rattle.acpc_view.specs.View.{seen_places}
 use Rattle.play_event.specs.CanonScript.{dealt_slots}
 use Rattle.play_event.specs.declared.hand_limits.TheConstants.{MOST_MOVES}
-use Rattle.hand_records.specs.TraceRows.{core_said}
-use Rattle.hand_records.specs.declared.trace.Trace.{Trace}
+use Rattle.hand_canon.specs.TraceRows.{core_said}
+use Rattle.hand_canon.specs.declared.trace.Trace.{Trace}
 use Rattle.play_event.specs.Trace.{TracedPlace}
 
 -- No seat puts more chips than a row holds, the trace has no more moves than a hand may have, and

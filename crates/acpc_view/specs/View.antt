@@ -6,14 +6,14 @@
 use Rattle.std.specs.Prelude.{ℕ, ◌+◌, ◌-◌, Bool, true, ◌&&◌, ◌||◌, ◌==◌, nat_le, List, [], ◌∷◌, ◌++◌, codes, decimal, filter, flat_map, length, slice_get, take, Option, Some, None}
 use Rattle.std.specs.List.{list_any, range_with_len}
 use Rattle.std.specs.Option.{option_map_or}
-use Rattle.acpc_writing.specs.Betting.{betting_text}
-use Rattle.acpc_writing.specs.Cards.{cards_text}
-use Rattle.acpc_writing.specs.Names.{hand_text}
+use Rattle.acpc_format.specs.Betting.{betting_text}
+use Rattle.acpc_format.specs.Cards.{cards_text}
+use Rattle.acpc_format.specs.Names.{hand_text}
 use Rattle.play_event.specs.CanonScript.{plain_moves}
 use Rattle.play_event.specs.TraceCore.{TraceCore}
-use Rattle.hand_records.specs.TraceRows.{core_said}
-use Rattle.hand_records.specs.declared.trace.Play.{Play}
-use Rattle.hand_records.specs.declared.trace.Trace.{Trace}
+use Rattle.hand_canon.specs.TraceRows.{core_said}
+use Rattle.hand_canon.specs.declared.trace.Play.{Play}
+use Rattle.hand_canon.specs.declared.trace.Trace.{Trace}
 use Rattle.play_event.specs.Trace.{TracedMove, TracedPlace}
 
 -- The round of a street has begun before the move at an index (from 0): the move is on this street

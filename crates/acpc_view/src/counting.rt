@@ -1,27 +1,27 @@
 //! Counts the bytes of the lines that a seat saw, without allocating memory.
 ghost use Rattle.std.specs.Prelude.{◌≡◌, ◌≤◌, ◌*◌, ◌++◌, Some, None, decimal, length, map, take};
-ghost use Rattle.acpc_writing.specs.Betting.{betting_text, letter, letter_on, letters_on, round_text};
-ghost use Rattle.acpc_writing.specs.Cards.{board_text, cards_text, hole_text, holes_text};
-ghost use Rattle.acpc_writing.specs.Names.{hand_text};
-ghost use Rattle.acpc_writing.specs.Rounds as rounds;
-ghost use Rattle.acpc_writing.specs.Seats.{bar_before};
-ghost use Rattle.acpc_writing.specs.Puts.{HaveFewChips};
+ghost use Rattle.acpc_format.specs.Betting.{betting_text, letter, letter_on, letters_on, round_text};
+ghost use Rattle.acpc_format.specs.Cards.{board_text, cards_text, hole_text, holes_text};
+ghost use Rattle.acpc_format.specs.Names.{hand_text};
+ghost use Rattle.acpc_format.specs.Rounds as rounds;
+ghost use Rattle.acpc_format.specs.Seats.{bar_before};
+ghost use Rattle.acpc_format.specs.Puts.{HaveFewChips};
 ghost use Rattle.acpc_view.specs.Lengths.{IsLengthWithin, IsShort, hole_of, seen_by};
 ghost use Rattle.acpc_view.specs.View.{seen_text, view_line, views_text};
 ghost use Rattle.play_event.specs.CanonScript.{dealt_slots, plain_move, plain_moves};
 ghost use Rattle.card_set.specs.Spelling.{spelling};
 ghost use Rattle.hand_canon.specs.Sound.{IsSound};
-ghost use Rattle.hand_records.specs.TraceRows.{place_said};
+ghost use Rattle.hand_canon.specs.TraceRows.{place_said};
 ghost use Rattle.play_event.specs.Past.{Raised};
 ghost use Rattle.play_event.specs.Played.{act_said, move_said};
 ghost use Rattle.play_event.specs.Said.{seat_named};
 
 use crate::seeing::{has_begun, sees_seat_of};
+use acpc_format::{add, has_board, has_unknown, is_dealt, is_spelled_hand, posted_chips};
 use acpc_game::Game;
-use acpc_writing::{add, has_board, has_unknown, is_dealt, is_spelled_hand, posted_chips};
 use chip_ledger::Seat;
 use first_fault::Text;
-use hand_records::{Play, Trace};
+use hand_canon::{Play, Trace};
 use play_event::{Act, Move, Place, Setup};
 
 /// The number of bytes of the lines that a seat saw of the play at a place of its file (from 0)

@@ -2,9 +2,9 @@
 //! boards dealt by then.
 ghost use Rattle.std.specs.Prelude.{◌≡◌, ◌≤◌, ◌∷◌, ◌++◌, ℕ, Bool, List, false, length, ◌&&◌, if◌then◌else◌, nat_le};
 ghost use Rattle.acpc_view.specs.Known.{AreAlikeTo};
-ghost use Rattle.acpc_writing.specs.Rounds.{has_board};
+ghost use Rattle.acpc_format.specs.Rounds.{has_board};
 ghost use Rattle.acpc_view.specs.View.{has_begun, view_line};
-ghost use Rattle.hand_records.specs.declared.trace.Play.{Play};
+ghost use Rattle.hand_canon.specs.declared.trace.Play.{Play};
 ghost use Rattle.play_event.specs.Dealing.{board_cards_dealt};
 ghost use Rattle.play_event.specs.Due.{turn};
 ghost use Rattle.play_event.specs.Games.{street_count};

@@ -5,13 +5,13 @@ ghost use Rattle.std.specs.List.{list_any};
 ghost use Rattle.acpc_view.specs.View.{is_seen_by, sees_seat};
 ghost use Rattle.acpc_view.specs.View as view;
 ghost use Rattle.chip_ledger.specs.LiveRow.{flagged};
-ghost use Rattle.hand_records.specs.TraceRows.{core_said, place_said};
+ghost use Rattle.hand_canon.specs.TraceRows.{core_said, place_said};
 ghost use Rattle.play_event.specs.Played.{move_said};
 ghost use Rattle.play_event.specs.Said.{seat_named};
 
 use card_set::{Memory, TryPush};
 use chip_ledger::{LiveRow, Seat};
-use hand_records::Trace;
+use hand_canon::Trace;
 use play_event::{Move, Place};
 use std::alloc::Global;
 

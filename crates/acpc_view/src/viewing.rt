@@ -1,16 +1,16 @@
 //! Writes the lines that a seat saw of a hand: one before each move, and one after the last.
 ghost use Rattle.std.specs.Prelude.{◌≡◌, ◌≤◌, ◌++◌, length, IfOk, OnOk};
-ghost use Rattle.acpc_writing.specs.Puts.{HaveFewChips};
+ghost use Rattle.acpc_format.specs.Puts.{HaveFewChips};
 ghost use Rattle.acpc_view.specs.View.{head_text, seen_text, view_line, views_text};
 ghost use Rattle.hand_canon.specs.Sound.{IsSound};
 
 use crate::seeing::seen_places;
+use acpc_format::{push_betting, push_cards, push_hand};
 use acpc_game::Game;
-use acpc_writing::{push_betting, push_cards, push_hand};
 use card_set::{Memory, TryExtend, displayed};
 use chip_ledger::Seat;
 use first_fault::Text;
-use hand_records::{Play, Trace};
+use hand_canon::{Play, Trace};
 use std::alloc::Global;
 
 /// The lines that a seat saw of the play at a place of its file (from 0) under the game of that

@@ -13,20 +13,20 @@ ghost use Rattle.convert_core.specs.declared.format_fault.FormatFault.{FormatFau
 ghost use Rattle.convert_core.specs.declared.refusal.Refusal.{Refusal};
 ghost use Rattle.first_fault.specs.declared.limits.TheConstants.{MOST_HANDS};
 ghost use Rattle.hand_canon.specs.Sound.{IsSound};
-ghost use Rattle.hand_records.specs.SaidNotes.{notes_of};
-ghost use Rattle.hand_records.specs.SameHands.{AreSameHands, kept_notes};
-ghost use Rattle.hand_records.specs.WriteRefusals.{first_refusal};
-ghost use Rattle.hand_records.specs.declared.record.Record.{Record};
-ghost use Rattle.hand_records.specs.declared.trace.Play.{Play};
-ghost use Rattle.hand_records.specs.declared.writing.Keep.TheVariants as keeps;
-ghost use Rattle.hand_records.specs.declared.writing.Unspelled.{Unspelled};
+ghost use Rattle.hand_canon.specs.SaidNotes.{notes_of};
+ghost use Rattle.hand_canon.specs.SameHands.{AreSameHands, kept_notes};
+ghost use Rattle.hand_canon.specs.WriteRefusals.{first_refusal};
+ghost use Rattle.hand_canon.specs.declared.record.Record.{Record};
+ghost use Rattle.hand_canon.specs.declared.trace.Play.{Play};
+ghost use Rattle.hand_canon.specs.declared.writing.Keep.TheVariants as keeps;
+ghost use Rattle.hand_canon.specs.declared.writing.Unspelled.{Unspelled};
 
 use convert_core::{
     Notation, law_of_converting_again, law_of_converting_by_way, law_of_equal_outputs,
     law_of_kept_notes, law_of_legal_conversions, law_of_one_conversion, law_of_one_outcome,
     law_of_verdicts,
 };
-use hand_records::Keep;
+use hand_canon::Keep;
 
 /// Records have one list of plays, or one first refused hand.
 pub fn outcome_is_one()

@@ -12,11 +12,11 @@ ghost use Rattle.chip_ledger.specs.declared.pots.Pot.{Pot};
 ghost use Rattle.hand_canon.specs.LegalHand.{IsLegalHand, showdown_in};
 ghost use Rattle.hand_canon.specs.Sharp.{IsOther, is_sharp};
 ghost use Rattle.hand_canon.specs.WholeTrace.{HasShares, IsTraceOf};
-ghost use Rattle.hand_records.specs.TraceRows.{place_said};
-ghost use Rattle.hand_records.specs.declared.record.Record.{Record};
-ghost use Rattle.hand_records.specs.declared.trace.Play.{Play};
-ghost use Rattle.hand_records.specs.declared.trace.Trace.{Trace};
-ghost use Rattle.hand_records.specs.declared.writing.Unspelled.{Unspelled};
+ghost use Rattle.hand_canon.specs.TraceRows.{place_said};
+ghost use Rattle.hand_canon.specs.declared.record.Record.{Record};
+ghost use Rattle.hand_canon.specs.declared.trace.Play.{Play};
+ghost use Rattle.hand_canon.specs.declared.trace.Trace.{Trace};
+ghost use Rattle.hand_canon.specs.declared.writing.Unspelled.{Unspelled};
 ghost use Rattle.play_event.specs.Laws.{AreLegal};
 ghost use Rattle.play_event.specs.Past.{Past, moves_of};
 ghost use Rattle.play_event.specs.Played.{IsPlace};
@@ -32,7 +32,7 @@ ghost use Rattle.trace_laws.specs.Conserved.{IsConserved};
 ghost use Rattle.trace_laws.specs.Winners.{AllGoToBest};
 
 use convert_core::{Notation, law_of_sharpness};
-use hand_records::Keep;
+use hand_canon::Keep;
 use hand_session::law_of_conserved_chips;
 use trace_laws::{
     law_of_canonical_hands, law_of_finishing_stacks, law_of_one_trace, law_of_places,

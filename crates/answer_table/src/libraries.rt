@@ -9,10 +9,10 @@ use crate::answer::push_named;
 use crate::parts::play_hands;
 use crate::pieces::{Pieces, parted};
 use card_set::{Memory, TryWrite, string_from, try_format, try_write};
+use hand_canon::Play;
 use hand_equity::{NoEquity, equity_of, equity_text};
-use hand_records::Play;
 use hand_session::{Session, session, session_text};
-use printed_report::report_text;
+use printed_hands::report_text;
 use std::alloc::Global;
 
 /// The answer to a call on the hands of the input: `session FROM`, `report FROM`, or

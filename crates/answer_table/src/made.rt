@@ -6,8 +6,8 @@ ghost use Rattle.hand_canon.specs.Sound.{IsSound};
 use crate::pieces::parted;
 use card_set::{Memory, TryPush, string_from, try_format};
 use convert_core::{PlaysFault, SoundRecords, plays_of};
+use hand_canon::{Keep, Play, WriteRefusal};
 use hand_gen::make;
-use hand_records::{Keep, Play, WriteRefusal};
 use host_io::{MemShelf, MemSink, MemSource};
 use poker_cli::{Status, run};
 use std::alloc::Global;
@@ -73,7 +73,7 @@ pub fn file_made(alloc: Global, seed: u64, count: u32) -> Result<MadeFile, NotMa
         Err(PlaysFault::Memory(memory)) => return Err(NotMade::Memory(memory)),
     };
     let moves = moves_of(&plays);
-    match phh_writing::write(alloc, &plays, Keep::All) {
+    match phh_format::write(alloc, &plays, Keep::All) {
         Ok(bytes) => Ok(MadeFile { bytes, moves }),
         Err(WriteRefusal::Unspelled { hand, .. }) => Err(NotMade::Unspelled { hand }),
         Err(WriteRefusal::Memory(memory)) => Err(NotMade::Memory(memory)),

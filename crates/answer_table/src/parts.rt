@@ -6,7 +6,7 @@ ghost use Rattle.hand_canon.specs.Sound.{IsSound};
 
 use acpc_format::{Game, read_game};
 use convert_core::{Format, Notation, plays};
-use hand_records::{Keep, Play, Records};
+use hand_canon::{Keep, Play, Records};
 use ohh_members::Dialect;
 use std::alloc::Global;
 

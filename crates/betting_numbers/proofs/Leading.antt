@@ -14,7 +14,7 @@ use Rattle.play_event.specs.Openers.{is_opener_before}
 use Rattle.play_event.specs.SeatSlots.{ups_of}
 use Rattle.play_event.proofs.OpenerOrder.{opens_not}
 use Rattle.chip_ledger.proofs.SeatLists.{none_at}
-use Rattle.up_card_order.proofs.Earlier.{early_opens, late_opens}
+use Rattle.betting_numbers.proofs.Earlier.{early_opens, late_opens}
 use Rattle.betting_numbers.specs.declared.betting_state.BettingState.{BettingState}
 use Rattle.betting_numbers.specs.Seen.{can_act_seen}
 use Rattle.betting_numbers.specs.UpSeen.{has_unknown_seen, has_unknown_up_card_seen, is_as_early_seen, is_before_seen, known_opener_seen, up_opener_seen}

@@ -1,3 +1,8 @@
+-- What the running numbers say is what the rules say, and which up-cards open as early as others.
+
+-- Which up-cards open as early as others, and how often their ranks occur.
+pub mod Counts
+pub mod Earlier
 -- What the running numbers say is what the rules say of the past that they stand for.
 pub mod OneChanged
 pub mod Bridge

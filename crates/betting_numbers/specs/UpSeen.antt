@@ -7,7 +7,7 @@ use Rattle.play_event.specs.declared.limit.Opener.{Opener}
 use Rattle.play_event.specs.Openers.{is_opener_before}
 use Rattle.card_set.specs.Known.{is_unknown, known_cards}
 use Rattle.play_event.specs.Past.{Past}
-use Rattle.up_card_order.specs.Earliest.{opens_no_later}
+use Rattle.betting_numbers.specs.Earliest.{opens_no_later}
 use Rattle.play_event.specs.SeatSlots.{ups_of}
 use Rattle.play_event.specs.Seats.{all_seats}
 use Rattle.play_event.specs.Table.{up_cards}

@@ -1,8 +1,12 @@
-//! The running numbers of the betting, and what the rules say by them.
+//! The running numbers of the betting, what the rules say by them, and whose up-cards open a street
+//! before another's.
 #![tactic(auto)]
 
 mod betting_state;
 mod caps;
+mod comparing;
+mod counting;
+mod heights;
 mod legal_moves;
 mod looking;
 mod moving;
@@ -16,6 +20,7 @@ mod up_opening;
 mod viewing;
 
 pub use betting_state::BettingState;
+pub use comparing::{is_opener_before, opens_no_later};
 pub use legal_moves::{LegalMove, Turn};
 pub use starting::start;
 pub use targeting::Targets;

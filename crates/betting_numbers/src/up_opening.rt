@@ -6,9 +6,9 @@ ghost use Rattle.betting_numbers.specs.UpSeen.{LeadsAsWell, is_before_seen, has_
 ghost use Rattle.betting_numbers.specs.Seen.{first_behind_seen, can_act_seen};
 
 use crate::betting_state::BettingState;
+use crate::comparing::{is_opener_before, opens_no_later};
 use chip_ledger::Seat;
 use play_event::{Opener, UpRow};
-use up_card_order::{is_opener_before, opens_no_later};
 
 /// Whose turn it is, if known, and the seat after it.
 #[derive(Clone, Copy, Debug, PartialEq, Eq)]

@@ -7,8 +7,8 @@ use Rattle.command_words.specs.declared.notation.NotationName.{NotationName}
 use Rattle.command_words.specs.declared.notation.NotationName.TheVariants as names
 use Rattle.command_words.specs.declared.request.Logs.TheVariants as logs_are
 use Rattle.command_words.specs.declared.command.Command.TheVariants as commands
-use Rattle.hand_records.specs.declared.writing.Keep.{Keep}
-use Rattle.hand_records.specs.declared.writing.Keep.TheVariants as keeps
+use Rattle.hand_canon.specs.declared.writing.Keep.{Keep}
+use Rattle.hand_canon.specs.declared.writing.Keep.TheVariants as keeps
 
 -- Converts one notation to another. It needs a game file, whose name is not empty, if one of them
 -- is a log, and may not have one otherwise.

@@ -3,7 +3,7 @@ ghost use Rattle.std.specs.Prelude.{◌≡◌};
 ghost use Rattle.command_words.specs.Command.{with_notations};
 
 use chip_ledger::Seat;
-use hand_records::Keep;
+use hand_canon::Keep;
 
 /// What is asked about the hands of the input; `N` names a notation. Hands and streets are counted
 /// from 1.

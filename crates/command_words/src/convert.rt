@@ -7,7 +7,7 @@ use crate::command::Command;
 use crate::given_options::{GivenOptions, are_none};
 use crate::notation::{NotationName, notation_named};
 use crate::request::{Logs, Request};
-use hand_records::Keep;
+use hand_canon::Keep;
 
 /// Converts hands from one notation to another.
 pub fn request<'a>(options: GivenOptions<'a>) -> Option<Request<'a>>

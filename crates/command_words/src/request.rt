@@ -7,7 +7,7 @@ use crate::command::{Command, EachQuestion};
 use crate::given_options::{GivenOptions, are_none};
 use crate::notation::{NotationName, PlainNotation, notation_named};
 use crate::numbers::HandCount;
-use hand_records::Keep;
+use hand_canon::Keep;
 
 /// What the program is asked for.
 #[derive(Clone, Copy, Debug, PartialEq, Eq)]

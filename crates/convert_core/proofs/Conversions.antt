@@ -5,12 +5,12 @@ use Rattle.std.proofs.Common.{◌≡◌, ℕ, ◌<◌, ◌≤◌, List, Option, 
 use Rattle.std.specs.List.{AllByRecursion}
 use Rattle.first_fault.specs.declared.limits.TheConstants.{MOST_HANDS}
 use Rattle.hand_canon.specs.Sound.{IsSound}
-use Rattle.hand_records.specs.WriteRefusals.{first_refusal}
-use Rattle.hand_records.specs.declared.trace.Play.{Play}
-use Rattle.hand_records.specs.declared.writing.Keep.{Keep}
-use Rattle.hand_records.specs.declared.writing.Keep.TheVariants as keeps
-use Rattle.hand_records.specs.declared.writing.Unspelled.{Unspelled}
-use Rattle.hand_records.specs.declared.writing.WriteRefusal.TheVariants as refusals
+use Rattle.hand_canon.specs.WriteRefusals.{first_refusal}
+use Rattle.hand_canon.specs.declared.trace.Play.{Play}
+use Rattle.hand_canon.specs.declared.writing.Keep.{Keep}
+use Rattle.hand_canon.specs.declared.writing.Keep.TheVariants as keeps
+use Rattle.hand_canon.specs.declared.writing.Unspelled.{Unspelled}
+use Rattle.hand_canon.specs.declared.writing.WriteRefusal.TheVariants as refusals
 use Rattle.convert_core.specs.Answers.{Answers}
 use Rattle.convert_core.specs.Lawful.{Lawful}
 use Rattle.convert_core.specs.Meaning.{AreReadBack, Meaning}
@@ -18,9 +18,9 @@ use Rattle.convert_core.specs.Conversion.{HasUnspelled, IsConversion, ReadAsPlay
 use Rattle.convert_core.specs.declared.convert_fault.ConvertFault.{ConvertFault}
 use Rattle.convert_core.specs.declared.convert_fault.ConvertFault.TheVariants as faults
 use Rattle.convert_core.proofs.OneConversion.{refused_or_played}
-use Rattle.hand_records.specs.SaidNotes.{SaidNotes, notes_of}
+use Rattle.hand_canon.specs.SaidNotes.{SaidNotes, notes_of}
 use Rattle.convert_core.specs.SameAnswers.{AreSameAnswers}
-use Rattle.hand_records.specs.SameHands.{AllPaired, AreSameHand, kept_notes}
+use Rattle.hand_canon.specs.SameHands.{AllPaired, AreSameHand, kept_notes}
 use Rattle.convert_core.proofs.Paired.{each_both, each_second, each_spelled, none_unspelled, one_refusal, paired_below, paired_both, paired_more, paired_turned}
 use Rattle.convert_core.proofs.KeptByChoice.{again_spelled}
 use Rattle.convert_core.proofs.LawfulNotations.{AreReadSame, IsReadAgain, all_read_same, never_refused, no_fault, read_again, read_few, read_same, read_sound}

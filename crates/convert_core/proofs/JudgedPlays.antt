@@ -2,15 +2,15 @@
 use Rattle.std.proofs.Common.{◌≡◌, ℕ, ◌+◌, List, [], ◌∷◌, ◌++◌, All, length, append_assoc, length-append, ap, ◌∙◌, arith}
 use Rattle.std.proofs.lemmas.List.{map-append}
 use Rattle.std.proofs.lemmas.List.Elements.{All-cons, All-head, All-nil, All-same, All-tail}
-use Rattle.hand_records.specs.declared.record.Record.{Record}
-use Rattle.hand_records.specs.declared.trace.Play.{Play}
+use Rattle.hand_canon.specs.declared.record.Record.{Record}
+use Rattle.hand_canon.specs.declared.trace.Play.{Play}
 use Rattle.hand_canon.specs.Sound.{IsSound}
-use Rattle.hand_records.specs.SoundRecord.{IsSoundRecord}
+use Rattle.hand_canon.specs.SoundRecord.{IsSoundRecord}
 use Rattle.convert_core.specs.declared.refusal.PlaysFault.{PlaysFault}
 use Rattle.convert_core.specs.declared.refusal.PlaysFault.TheVariants as plays_faults
 use Rattle.hand_canon.specs.LegalPlay.{IsLegalPlay}
 use Rattle.convert_core.specs.Judged.{IsFaultAt, IsPlaysFaultOf}
-use Rattle.hand_records.specs.Plays.{hands_of}
+use Rattle.hand_canon.specs.Plays.{hands_of}
 
 -- one more play, whose record is the next one
 pub one_more : (plays : List Play) (play : Play) (hand : Record) (left records : List Record)

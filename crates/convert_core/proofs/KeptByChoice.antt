@@ -4,13 +4,13 @@ use Rattle.std.specs.List.{AllByRecursion}
 use Rattle.first_fault.specs.declared.limits.TheConstants.{MOST_HANDS}
 use Rattle.hand_canon.specs.ReadAgain.{AreAgain}
 use Rattle.hand_canon.specs.Sound.{IsSound}
-use Rattle.hand_records.specs.SaidNotes.{KeepsNotes, notes_of}
-use Rattle.hand_records.specs.SameHands.{AllPaired, kept_notes}
-use Rattle.hand_records.specs.WriteRefusals.{first_refusal}
-use Rattle.hand_records.specs.declared.record.Record.{Record}
-use Rattle.hand_records.specs.declared.trace.Play.{Play}
-use Rattle.hand_records.specs.declared.writing.Keep.{Keep}
-use Rattle.hand_records.specs.declared.writing.Keep.TheVariants as keeps
+use Rattle.hand_canon.specs.SaidNotes.{KeepsNotes, notes_of}
+use Rattle.hand_canon.specs.SameHands.{AllPaired, kept_notes}
+use Rattle.hand_canon.specs.WriteRefusals.{first_refusal}
+use Rattle.hand_canon.specs.declared.record.Record.{Record}
+use Rattle.hand_canon.specs.declared.trace.Play.{Play}
+use Rattle.hand_canon.specs.declared.writing.Keep.{Keep}
+use Rattle.hand_canon.specs.declared.writing.Keep.TheVariants as keeps
 use Rattle.convert_core.specs.Lawful.{Lawful}
 use Rattle.convert_core.specs.Meaning.{AreReadBack, Meaning}
 use Rattle.convert_core.proofs.LawfulNotations.{IsReadAgain}

@@ -6,13 +6,13 @@ use Rattle.first_fault.specs.declared.limits.TheConstants.{MOST_HANDS}
 use Rattle.hand_canon.specs.LegalPlay.{IsLegalPlay}
 use Rattle.hand_canon.specs.ReadAgain.{AreAgain}
 use Rattle.hand_canon.specs.Sound.{IsSound}
-use Rattle.hand_records.specs.AllowedNotes.{non_default_seats}
-use Rattle.hand_records.specs.Plays.{hands_of}
-use Rattle.hand_records.specs.declared.notes.Notes.{Notes}
-use Rattle.hand_records.specs.declared.record.Record.{Record}
-use Rattle.hand_records.specs.declared.trace.Play.{Play}
-use Rattle.hand_records.specs.declared.trace.Trace.{Trace}
-use Rattle.hand_records.specs.declared.writing.Keep.TheVariants as keeps
+use Rattle.hand_canon.specs.AllowedNotes.{non_default_seats}
+use Rattle.hand_canon.specs.Plays.{hands_of}
+use Rattle.hand_canon.specs.declared.notes.Notes.{Notes}
+use Rattle.hand_canon.specs.declared.record.Record.{Record}
+use Rattle.hand_canon.specs.declared.trace.Play.{Play}
+use Rattle.hand_canon.specs.declared.trace.Trace.{Trace}
+use Rattle.hand_canon.specs.declared.writing.Keep.TheVariants as keeps
 use Rattle.card_set.proofs.NumbersOfRange.{map_agree}
 use Rattle.play_event.specs.declared.setup.Rules.{Rules}
 use Rattle.convert_core.specs.Conversion.{ReadAsPlays, ReadAsRefused}
@@ -29,9 +29,9 @@ use Rattle.convert_core.proofs.JudgedPlays.{judged_sound}
 use Rattle.convert_core.proofs.OneConversion.{AllPlayedAlike, plays_alike}
 use Rattle.convert_core.proofs.OneOutcome.{not_both, same_plays}
 use Rattle.convert_core.proofs.WrittenLines.{few_plays}
-use Rattle.hand_records.proofs.NoteLaws.{notes_same, said_taken}
-use Rattle.hand_records.specs.SaidNotes.{KeepsNotes, SaidNotes, hand_name_noted, name_said, notes_of, numbers_said, said_notes}
-use Rattle.hand_records.specs.SameHands.{AllPaired, AreSameHand}
+use Rattle.hand_canon.proofs.NoteLaws.{notes_same, said_taken}
+use Rattle.hand_canon.specs.SaidNotes.{KeepsNotes, SaidNotes, hand_name_noted, name_said, notes_of, numbers_said, said_notes}
+use Rattle.hand_canon.specs.SameHands.{AllPaired, AreSameHand}
 
 -- bytes that say records have no fault
 pub no_fault : {n : Meaning} (law : Lawful n) (bytes : List ℕ) (hands : List Record) (fault : FormatFault) → n.Say bytes hands → n.HaveFault bytes fault → ⊥

@@ -2,15 +2,15 @@
 use Rattle.std.proofs.Common.{◌≡◌, ℕ, All, List, [], ◌∷◌, sym, subst}
 use Rattle.std.proofs.lemmas.List.Elements.{All-head, All-tail}
 use Rattle.hand_canon.specs.LegalPlay.{IsLegalPlay}
-use Rattle.hand_records.specs.declared.record.Record.{Record}
-use Rattle.hand_records.specs.declared.trace.Play.{Play}
+use Rattle.hand_canon.specs.declared.record.Record.{Record}
+use Rattle.hand_canon.specs.declared.trace.Play.{Play}
 use Rattle.play_event.specs.declared.setup.Setup.{Setup}
 use Rattle.convert_core.specs.Conversion.{ReadAsPlays, ReadAsRefused}
 use Rattle.convert_core.specs.Judged.{ArePlaysOf}
 use Rattle.convert_core.specs.SameRecords.{AllAlike, ArePlayedAlike, NoteTheSame}
 use Rattle.convert_core.specs.declared.refusal.Refusal.{Refusal}
 use Rattle.convert_core.proofs.OneOutcome.{AllTheSame, AllTraced, no_plays, same_refused, same_traces}
-use Rattle.hand_records.specs.Plays.{hands_of}
+use Rattle.hand_canon.specs.Plays.{hands_of}
 
 pub all_same : (records others : List Record) → AllAlike records others → AllTheSame records others
 unfolding AllAlike AllTheSame

@@ -10,10 +10,10 @@ use Rattle.play_event.specs.Scripts.{past_at_end}
 use Rattle.hand_canon.specs.declared.agreement.FactDiffers.{FactDiffers}
 use Rattle.hand_canon.specs.declared.agreement.Which.{Which}
 use Rattle.hand_canon.specs.declared.agreement.Which.TheVariants as whiches
-use Rattle.hand_records.specs.declared.record.Record.{Record}
-use Rattle.hand_records.specs.declared.record.Stated.{Stated}
-use Rattle.hand_records.specs.declared.trace.Play.{Play}
-use Rattle.hand_records.specs.declared.trace.Trace.{Trace}
+use Rattle.hand_canon.specs.declared.record.Record.{Record}
+use Rattle.hand_canon.specs.declared.record.Stated.{Stated}
+use Rattle.hand_canon.specs.declared.trace.Play.{Play}
+use Rattle.hand_canon.specs.declared.trace.Trace.{Trace}
 use Rattle.hand_canon.specs.Agreement.{Comparison, difference_said, first_difference, which_said}
 use Rattle.hand_canon.specs.LegalHand.{IsLegalHand}
 use Rattle.hand_canon.specs.WholeTrace.{IsTraceOf}
@@ -28,7 +28,7 @@ use Rattle.convert_core.specs.declared.refusal.Refusal.TheVariants as refusals
 use Rattle.hand_canon.specs.LegalPlay.{IsLegalPlay, IsTraceOfLegal}
 use Rattle.convert_core.specs.Judged.{ArePlaysOf, HasDifference, IsFirstRefused, IsRefusedFor, IsReplayFaultOf}
 use Rattle.convert_core.specs.SameRecords.{SayTheSame}
-use Rattle.hand_records.specs.Plays.{hands_of}
+use Rattle.hand_canon.specs.Plays.{hands_of}
 
 pub itself : (a : Record) → SayTheSame a a
 itself a = record { setup = refl; rules = refl; script = refl; stated = refl }

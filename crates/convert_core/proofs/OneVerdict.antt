@@ -3,9 +3,9 @@
 use Rattle.std.proofs.Common.{◌≡◌, ℕ, All, List, [], ◌∷◌, ◌++◌, map, refl, sym, subst, ap, ap₂, ◌∙◌}
 use Rattle.std.proofs.lemmas.List.Elements.{All-cons, All-head, All-nil, All-tail}
 use Rattle.hand_canon.specs.LegalPlay.{IsLegalPlay}
-use Rattle.hand_records.specs.Plays.{hands_of}
-use Rattle.hand_records.specs.declared.record.Record.{Record}
-use Rattle.hand_records.specs.declared.trace.Play.{Play}
+use Rattle.hand_canon.specs.Plays.{hands_of}
+use Rattle.hand_canon.specs.declared.record.Record.{Record}
+use Rattle.hand_canon.specs.declared.trace.Play.{Play}
 use Rattle.convert_core.proofs.OneOutcome.{itself, not_judged, one_refusal, same_plays}
 use Rattle.convert_core.proofs.Taken.{legal_hands}
 use Rattle.convert_core.specs.Judged.{ArePlaysOf, IsFirstRefused, IsRefusedFor}

@@ -1,11 +1,11 @@
 -- Lists of plays, pair by pair.
 use Rattle.std.proofs.Common.{◌≡◌, ℕ, ◌+◌, ◌≤◌, ◌<◌, List, [], ◌∷◌, Option, None, length, refl, ap₂, arith}
 use Rattle.std.specs.List.{AllByRecursion}
-use Rattle.hand_records.specs.declared.trace.Play.{Play}
-use Rattle.hand_records.specs.declared.writing.Unspelled.{Unspelled}
-use Rattle.hand_records.specs.WriteRefusals.{refused_at, refusal_from}
-use Rattle.hand_records.proofs.Refusals.{none_refused}
-use Rattle.hand_records.specs.SameHands.{AllPaired}
+use Rattle.hand_canon.specs.declared.trace.Play.{Play}
+use Rattle.hand_canon.specs.declared.writing.Unspelled.{Unspelled}
+use Rattle.hand_canon.specs.WriteRefusals.{refused_at, refusal_from}
+use Rattle.hand_canon.proofs.Refusals.{none_refused}
+use Rattle.hand_canon.specs.SameHands.{AllPaired}
 
 -- what follows for pairs, one by one
 pub paired_more : (P Q : ℕ → Play → Play → Type 0) → ((place : ℕ) (play other : Play) → P place play other → Q place play other)

@@ -4,10 +4,10 @@ use Rattle.std.proofs.lemmas.List.{length-map, map-append}
 use Rattle.std.proofs.lemmas.List.Elements.{All-cons, All-head, All-nil, All-push, All-same, All-tail}
 use Rattle.hand_canon.specs.LegalPlay.{IsLegalPlay}
 use Rattle.hand_canon.specs.Sound.{IsSound}
-use Rattle.hand_records.specs.SoundRecord.{IsSoundRecord}
-use Rattle.hand_records.specs.Plays.{hands_of}
-use Rattle.hand_records.specs.declared.record.Record.{Record}
-use Rattle.hand_records.specs.declared.trace.Play.{Play}
+use Rattle.hand_canon.specs.SoundRecord.{IsSoundRecord}
+use Rattle.hand_canon.specs.Plays.{hands_of}
+use Rattle.hand_canon.specs.declared.record.Record.{Record}
+use Rattle.hand_canon.specs.declared.trace.Play.{Play}
 use Rattle.convert_core.proofs.JudgedPlays.{first_refused, plays_sound}
 use Rattle.convert_core.specs.Judged.{ArePlaysOf, IsFaultAt, IsPlaysFaultOf, IsPlaysOutOfMemory, IsRefusedFor}
 use Rattle.convert_core.specs.declared.refusal.PlaysFault.{PlaysFault}

@@ -1,13 +1,13 @@
 -- What is written after one more hand.
 use Rattle.std.proofs.Common.{◌≡◌, true, false, ℕ, ◌+◌, ◌≤◌, All, List, [], ◌∷◌, ◌++◌, Option, Some, None, Result, Ok, Err, length, sum_by, refl, sym, ap, subst, ◌∙◌, arith}
 use Rattle.std.specs.Option.{is_some}
-use Rattle.hand_records.specs.WriteRefusals.{first_refusal, refusal_from, refused_at}
+use Rattle.hand_canon.specs.WriteRefusals.{first_refusal, refusal_from, refused_at}
 use Rattle.std.proofs.lemmas.List.{length-map}
 use Rattle.first_fault.specs.declared.limits.TheConstants.{MOST_FILE_MOVES, MOST_HANDS}
 use Rattle.hand_canon.specs.Sound.{IsSound}
-use Rattle.hand_records.specs.Moves.{moves_of}
-use Rattle.hand_records.specs.declared.record.Record.{Record}
-use Rattle.hand_records.specs.declared.trace.Play.{Play}
+use Rattle.hand_canon.specs.Moves.{moves_of}
+use Rattle.hand_canon.specs.declared.record.Record.{Record}
+use Rattle.hand_canon.specs.declared.trace.Play.{Play}
 use Rattle.card_set.proofs.Sums.{sum_by-map}
 use Rattle.convert_core.specs.Conversion.{IsConversion}
 use Rattle.convert_core.specs.Judged.{ArePlaysOf}
@@ -15,15 +15,15 @@ use Rattle.convert_core.specs.Records.{AreFew}
 use Rattle.convert_core.specs.declared.convert_fault.ConvertFault.{ConvertFault}
 use Rattle.convert_core.specs.declared.convert_fault.ConvertFault.TheVariants as faults
 use Rattle.convert_core.specs.declared.format_fault.FormatFault.{FormatFault}
-use Rattle.hand_records.specs.declared.writing.Unspelled.{Unspelled}
-use Rattle.hand_records.specs.declared.writing.WriteRefusal.{WriteRefusal}
-use Rattle.hand_records.specs.declared.writing.WriteRefusal.TheVariants as refusals
-use Rattle.hand_records.proofs.Refusals.{none_refused}
+use Rattle.hand_canon.specs.declared.writing.Unspelled.{Unspelled}
+use Rattle.hand_canon.specs.declared.writing.WriteRefusal.{WriteRefusal}
+use Rattle.hand_canon.specs.declared.writing.WriteRefusal.TheVariants as refusals
+use Rattle.hand_canon.proofs.Refusals.{none_refused}
 use Rattle.convert_core.proofs.Taken.{all_counted, legal_more}
 use Rattle.convert_core.specs.Verdicts.{AreLegalUnless, Legal, Verdict, legal_plays}
 use Rattle.convert_core.specs.Lines.{IsWritten}
 use Rattle.convert_core.specs.Meaning.{Meaning}
-use Rattle.hand_records.specs.declared.writing.Keep.{Keep}
+use Rattle.hand_canon.specs.declared.writing.Keep.{Keep}
 
 -- if one is refused already, it stays the first
 refused_first : (number : ℕ) (fact : Option Unspelled) (behind more : Option WriteRefusal) (refusal : WriteRefusal)

@@ -4,22 +4,22 @@ use Rattle.std.specs.Prelude.{◌≡◌, ℕ, ◌≤◌, true, false, List, leng
 use Rattle.std.specs.List.{AllByRecursion}
 use Rattle.acpc_format.specs.KeptNotes.{kept_in_acpc}
 use Rattle.acpc_game.specs.declared.game.Game.{Game}
-use Rattle.acpc_writing.specs.Line.{log_text}
-use Rattle.acpc_writing.specs.Spelled.{unspelled}
-use Rattle.acpc_writing.specs.Texts.{HasTexts}
+use Rattle.acpc_format.specs.Line.{log_text}
+use Rattle.acpc_format.specs.Spelled.{unspelled}
+use Rattle.acpc_format.specs.Texts.{HasTexts}
 use Rattle.acpc_reading.specs.Begins.{hand_lines}
 use Rattle.acpc_reading.specs.Logs.{reading}
 use Rattle.acpc_reading.specs.RecordView.{IsOfGame, record_said, rules_of}
 use Rattle.acpc_game.specs.declared.fault.AcpcFault.{AcpcFault}
 use Rattle.first_fault.specs.declared.limits.TheConstants.{MOST_FILE_MOVES, MOST_HANDS}
-use Rattle.hand_records.specs.declared.record.Record.{Record}
-use Rattle.hand_records.specs.declared.trace.Play.{Play}
+use Rattle.hand_canon.specs.declared.record.Record.{Record}
+use Rattle.hand_canon.specs.declared.trace.Play.{Play}
 use Rattle.convert_core.specs.Faults.{is_out_of_memory_in_acpc}
 use Rattle.convert_core.specs.Meaning.{Meaning}
 use Rattle.convert_core.specs.Readings.{GivesHands}
 use Rattle.convert_core.specs.declared.format_fault.FormatFault.{FormatFault}
 use Rattle.convert_core.specs.declared.format_fault.FormatFault.TheVariants as formats
-use Rattle.hand_records.specs.Moves.{moves_of}
+use Rattle.hand_canon.specs.Moves.{moves_of}
 
 -- bytes say these records under a game: they are read as these, each is a hand of the game, and
 -- there are at most as many as a file may have

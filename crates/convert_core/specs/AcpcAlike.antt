@@ -8,9 +8,9 @@ use Rattle.std.proofs.Props.{props}
 use Rattle.std.proofs.lemmas.Bool.{cases_lt}
 use Rattle.std.proofs.lemmas.List.{ext_get_or, get_or-take, length-take-le}
 use Rattle.play_event.specs.declared.setup.Setup.{Setup}
-use Rattle.hand_records.specs.declared.record.NetRow.{NetRow}
-use Rattle.hand_records.specs.declared.record.Record.{Record}
-use Rattle.hand_records.specs.declared.record.Stated.{Stated}
+use Rattle.hand_canon.specs.declared.record.NetRow.{NetRow}
+use Rattle.hand_canon.specs.declared.record.Record.{Record}
+use Rattle.hand_canon.specs.declared.record.Stated.{Stated}
 use Rattle.acpc_format.proofs.SetupsSame.{setups_same}
 use Rattle.acpc_game.specs.declared.game.Game.{Game}
 use Rattle.acpc_reading.specs.Logs.{HandSaid}
@@ -19,7 +19,7 @@ use Rattle.acpc_reading.specs.Views.{nets_in}
 use Rattle.convert_core.specs.Acpc.{Say}
 use Rattle.convert_core.specs.SameParts.{names_same, one_script}
 use Rattle.convert_core.specs.SameRecords.{AllAlike, AreAlike}
-use Rattle.hand_records.specs.StatedFacts.{stated_from}
+use Rattle.hand_canon.specs.StatedFacts.{stated_from}
 
 -- what these numbers keep as the nets of this number of seats
 record KeptNets (seats : ℕ) (nets : List ℤ) : Type 0 where

@@ -7,16 +7,16 @@ use Rattle.acpc_format.specs.Again.{hands_again}
 use Rattle.acpc_format.specs.KeptNotes.{kept_in_acpc}
 use Rattle.acpc_format.proofs.NoteFacts as note_facts
 use Rattle.acpc_format.proofs.OneForm as forms
-use Rattle.hand_records.specs.SaidNotes.{KeepsNotes}
-use Rattle.hand_records.specs.SameHands.{AreSameHands}
+use Rattle.hand_canon.specs.SaidNotes.{KeepsNotes}
+use Rattle.hand_canon.specs.SameHands.{AreSameHands}
 use Rattle.acpc_format.proofs.HandsAgain.{read_back}
 use Rattle.acpc_format.proofs.Sharpness.{sharpness}
 use Rattle.acpc_format.proofs.SoundReads.{sound_again}
 use Rattle.acpc_game.specs.declared.game.Game.{Game}
-use Rattle.acpc_writing.proofs.SeatTexts.{plays_more}
-use Rattle.acpc_writing.specs.Line.{line_text, lines_from, log_text}
-use Rattle.acpc_writing.specs.Spelled as facts
-use Rattle.acpc_writing.specs.Texts.{HasTexts}
+use Rattle.acpc_format.proofs.SeatTexts.{plays_more}
+use Rattle.acpc_format.specs.Line.{line_text, lines_from, log_text}
+use Rattle.acpc_format.specs.Spelled as facts
+use Rattle.acpc_format.specs.Texts.{HasTexts}
 use Rattle.acpc_reading.specs.Logs.{reading}
 use Rattle.acpc_reading.specs.RecordView.{IsOfGame, record_said, rules_of}
 use Rattle.play_event.specs.TraceCore.{TraceCore}
@@ -27,11 +27,11 @@ use Rattle.play_event.specs.Past.{moves_of}
 use Rattle.play_event.specs.Scripts.{past_at_end}
 use Rattle.first_fault.specs.declared.limits.TheConstants.{MOST_FILE_MOVES}
 use Rattle.hand_canon.specs.Sound.{IsSound}
-use Rattle.hand_records.specs.SoundRecord.{script_said}
-use Rattle.hand_records.specs.declared.record.Record.{Record}
-use Rattle.hand_records.specs.declared.trace.Play.{Play}
-use Rattle.hand_records.specs.declared.writing.Keep.{Keep}
-use Rattle.hand_records.specs.declared.writing.Unspelled.{Unspelled}
+use Rattle.hand_canon.specs.SoundRecord.{script_said}
+use Rattle.hand_canon.specs.declared.record.Record.{Record}
+use Rattle.hand_canon.specs.declared.trace.Play.{Play}
+use Rattle.hand_canon.specs.declared.writing.Keep.{Keep}
+use Rattle.hand_canon.specs.declared.writing.Unspelled.{Unspelled}
 use Rattle.convert_core.specs.Acpc.{HaveFault, ReadAsHands, Say, Spell, meaning}
 use Rattle.convert_core.specs.AcpcAlike.{one_reading}
 use Rattle.convert_core.specs.AcpcReads.{none_of_read, read_again, read_or_fail, say_as_many}
@@ -42,9 +42,9 @@ use Rattle.convert_core.specs.ReadBack.{ReadBack}
 use Rattle.convert_core.specs.Records.{AreFew, AreOfFile, IsUnder}
 use Rattle.convert_core.specs.declared.format_fault.FormatFault.{FormatFault}
 use Rattle.hand_canon.specs.Sharp.{IsOther, is_sharp}
-use Rattle.hand_records.specs.Moves.{moves_played}
-use Rattle.hand_records.specs.WriteRefusals.{first_refusal}
-use Rattle.hand_records.specs.Plays.{moves_written}
+use Rattle.hand_canon.specs.Moves.{moves_played}
+use Rattle.hand_canon.specs.WriteRefusals.{first_refusal}
+use Rattle.hand_canon.specs.Plays.{moves_written}
 use Rattle.play_event.proofs.TracedMoves.{as_many}
 
 -- each hand that bytes say is under the rules of its notation

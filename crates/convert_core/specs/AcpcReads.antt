@@ -8,8 +8,8 @@ use Rattle.acpc_game.specs.declared.game.Game.{Game}
 use Rattle.acpc_reading.specs.Logs.{HandSaid, reading}
 use Rattle.acpc_reading.specs.RecordView.{record_said}
 use Rattle.acpc_game.specs.declared.fault.AcpcFault.{AcpcFault}
-use Rattle.hand_records.specs.declared.record.Record.{Record}
-use Rattle.hand_records.specs.declared.trace.Play.{Play}
+use Rattle.hand_canon.specs.declared.record.Record.{Record}
+use Rattle.hand_canon.specs.declared.trace.Play.{Play}
 use Rattle.convert_core.specs.Acpc.{HaveFault, ReadAsHands, Say}
 use Rattle.convert_core.specs.Faults.{is_out_of_memory_in_acpc}
 use Rattle.convert_core.specs.OneReading.{HasFaultsOf}

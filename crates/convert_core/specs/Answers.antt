@@ -1,7 +1,7 @@
 -- What a conversion from one notation to another results in.
 use Rattle.std.specs.Prelude.{ℕ, List, Result}
-use Rattle.hand_records.specs.SameHands.{kept_notes}
-use Rattle.hand_records.specs.declared.writing.Keep.{Keep}
+use Rattle.hand_canon.specs.SameHands.{kept_notes}
+use Rattle.hand_canon.specs.declared.writing.Keep.{Keep}
 use Rattle.convert_core.specs.Conversion.{IsConversion}
 use Rattle.convert_core.specs.Meaning.{AreReadBack, Meaning}
 use Rattle.convert_core.specs.declared.convert_fault.ConvertFault.{ConvertFault}

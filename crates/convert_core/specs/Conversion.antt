@@ -1,10 +1,10 @@
 -- The result of converting bytes: the plays in the other notation, the first refused hand, or the
 -- first fact that cannot be expressed.
 use Rattle.std.specs.Prelude.{◌≡◌, ℕ, List, Option, Some, None, Result, Ok, Err}
-use Rattle.hand_records.specs.declared.record.Record.{Record}
-use Rattle.hand_records.specs.declared.trace.Play.{Play}
-use Rattle.hand_records.specs.declared.writing.Unspelled.{Unspelled}
-use Rattle.hand_records.specs.declared.writing.WriteRefusal.TheVariants as refusals
+use Rattle.hand_canon.specs.declared.record.Record.{Record}
+use Rattle.hand_canon.specs.declared.trace.Play.{Play}
+use Rattle.hand_canon.specs.declared.writing.Unspelled.{Unspelled}
+use Rattle.hand_canon.specs.declared.writing.WriteRefusal.TheVariants as refusals
 use Rattle.convert_core.specs.Judged.{ArePlaysOf, IsFirstRefused}
 use Rattle.convert_core.specs.declared.convert_fault.ConvertFault.{ConvertFault}
 use Rattle.convert_core.specs.declared.convert_fault.ConvertFault.TheVariants as faults
@@ -12,7 +12,7 @@ use Rattle.convert_core.specs.declared.refusal.PlaysFault.{PlaysFault}
 use Rattle.convert_core.specs.declared.refusal.PlaysFault.TheVariants as whys
 use Rattle.convert_core.specs.declared.refusal.Refusal.{Refusal}
 use Rattle.convert_core.specs.declared.format_fault.FormatFault.{FormatFault}
-use Rattle.hand_records.specs.WriteRefusals.{first_refusal}
+use Rattle.hand_canon.specs.WriteRefusals.{first_refusal}
 
 -- The bytes read as hands that are all legal and agree with what is stated of them; these are their
 -- plays. `Say` is what the bytes say in their notation.

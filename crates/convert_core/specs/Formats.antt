@@ -7,14 +7,14 @@ use Rattle.convert_core.specs.Phh as in_phh
 use Rattle.convert_core.specs.declared.format.Format.{Format}
 use Rattle.convert_core.specs.declared.format.Format.TheVariants as formats
 use Rattle.convert_core.specs.declared.format_fault.FormatFault.{FormatFault}
-use Rattle.hand_records.specs.SaidNotes.{SaidNotes}
-use Rattle.hand_records.specs.SameHands.{kept_notes}
-use Rattle.hand_records.specs.WriteRefusals.{first_refusal}
-use Rattle.hand_records.specs.declared.record.Record.{Record}
-use Rattle.hand_records.specs.declared.trace.Play.{Play}
-use Rattle.hand_records.specs.declared.writing.Keep.{Keep}
-use Rattle.hand_records.specs.declared.writing.Unspelled.{Unspelled}
-use Rattle.hand_records.specs.declared.writing.WriteRefusal.{WriteRefusal}
+use Rattle.hand_canon.specs.SaidNotes.{SaidNotes}
+use Rattle.hand_canon.specs.SameHands.{kept_notes}
+use Rattle.hand_canon.specs.WriteRefusals.{first_refusal}
+use Rattle.hand_canon.specs.declared.record.Record.{Record}
+use Rattle.hand_canon.specs.declared.trace.Play.{Play}
+use Rattle.hand_canon.specs.declared.writing.Keep.{Keep}
+use Rattle.hand_canon.specs.declared.writing.Unspelled.{Unspelled}
+use Rattle.hand_canon.specs.declared.writing.WriteRefusal.{WriteRefusal}
 
 -- what a notation means
 abbrev pub meaning_of : Format → Meaning

@@ -1,9 +1,9 @@
 -- What records are replayed to: each to its play, or the first refused hand and the reason.
 use Rattle.std.specs.Prelude.{◌≡◌, ℕ, ◌+◌, List, [], ◌∷◌, ◌++◌, length, map, All, Some}
 use Rattle.hand_canon.specs.declared.agreement.FactDiffers.{FactDiffers}
-use Rattle.hand_records.specs.declared.record.Record.{Record}
-use Rattle.hand_records.specs.declared.trace.Play.{Play}
-use Rattle.hand_records.specs.declared.trace.Trace.{Trace}
+use Rattle.hand_canon.specs.declared.record.Record.{Record}
+use Rattle.hand_canon.specs.declared.trace.Play.{Play}
+use Rattle.hand_canon.specs.declared.trace.Trace.{Trace}
 use Rattle.hand_canon.specs.Agreement.{difference_said, first_difference}
 use Rattle.hand_canon.specs.LegalPlay.{IsLegalPlay, IsTraceOfLegal}
 use Rattle.replay_core.specs.declared.fault.ReplayFault.{ReplayFault}

@@ -5,17 +5,17 @@ use Rattle.std.proofs.Common.{◌≡◌, ℕ, Bool, true, false, cond, bytes_eq,
 use Rattle.std.proofs.lemmas.Slice.Eq.{bytes_eq-Decides}
 use Rattle.acpc_format.specs.Again.{kept_name}
 use Rattle.acpc_format.specs.KeptNotes.{kept_in_acpc, number_spelled}
-use Rattle.acpc_writing.specs.Names.{is_spelled_hand, is_spelled_name}
-use Rattle.hand_records.specs.NoteTable.{no_texts, text_named, text_names, texts_listed}
-use Rattle.hand_records.specs.SaidNotes.{SaidNotes}
-use Rattle.hand_records.specs.declared.notes.NoteName.{NoteName}
-use Rattle.hand_records.specs.declared.notes.NoteName.TheVariants as names
-use Rattle.hand_records.specs.declared.notes.Clock.{Clock}
+use Rattle.acpc_format.specs.Names.{is_spelled_hand, is_spelled_name}
+use Rattle.hand_canon.specs.NoteTable.{no_texts, text_named, text_names, texts_listed}
+use Rattle.hand_canon.specs.SaidNotes.{SaidNotes}
+use Rattle.hand_canon.specs.declared.notes.NoteName.{NoteName}
+use Rattle.hand_canon.specs.declared.notes.NoteName.TheVariants as names
+use Rattle.hand_canon.specs.declared.notes.Clock.{Clock}
 use Rattle.card_set.proofs.Options.{from_none_some}
 use Rattle.ohh_format.specs.KeptNotes.{kept_in_ohh, moment_in_notes, numbers_round}
 use Rattle.ohh_writing.specs.Moment.{moment_said}
 use Rattle.ohh_writing.specs.Seating.{is_circular}
-use Rattle.hand_records.specs.declared.notes.Moment.{Moment}
+use Rattle.hand_canon.specs.declared.notes.Moment.{Moment}
 use Rattle.phh_format.specs.KeptNotes.{kept_in_phh}
 use Rattle.convert_core.specs.NoteParts.{ArePartOf, AreSaidThere, IsSaidThere}
 

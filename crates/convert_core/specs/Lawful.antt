@@ -9,15 +9,15 @@ use Rattle.convert_core.specs.SameRecords.{AllAlike}
 use Rattle.first_fault.specs.declared.limits.TheConstants.{MOST_HANDS}
 use Rattle.hand_canon.specs.Sharp.{IsOther, is_sharp}
 use Rattle.hand_canon.specs.Sound.{IsSound}
-use Rattle.hand_records.specs.SaidNotes.{SaidNotes, notes_of}
-use Rattle.hand_records.specs.SameHands.{AreSameHand, AreSameHands}
-use Rattle.hand_records.specs.WriteRefusals.{first_refusal}
-use Rattle.hand_records.specs.declared.record.Record.{Record}
-use Rattle.hand_records.specs.declared.trace.Play.{Play}
-use Rattle.hand_records.specs.declared.writing.Keep.{Keep}
-use Rattle.hand_records.specs.declared.writing.Keep.TheVariants as keeps
-use Rattle.hand_records.specs.declared.writing.Unspelled.{Unspelled}
-use Rattle.hand_records.specs.declared.writing.Unspelled.TheVariants as facts
+use Rattle.hand_canon.specs.SaidNotes.{SaidNotes, notes_of}
+use Rattle.hand_canon.specs.SameHands.{AreSameHand, AreSameHands}
+use Rattle.hand_canon.specs.WriteRefusals.{first_refusal}
+use Rattle.hand_canon.specs.declared.record.Record.{Record}
+use Rattle.hand_canon.specs.declared.trace.Play.{Play}
+use Rattle.hand_canon.specs.declared.writing.Keep.{Keep}
+use Rattle.hand_canon.specs.declared.writing.Keep.TheVariants as keeps
+use Rattle.hand_canon.specs.declared.writing.Unspelled.{Unspelled}
+use Rattle.hand_canon.specs.declared.writing.Unspelled.TheVariants as facts
 
 -- a fact is a note
 abbrev pub is_note : Unspelled → Bool

@@ -1,8 +1,8 @@
 -- What is written for hands in a notation with one line per hand.
 use Rattle.std.specs.Prelude.{◌≡◌, ℕ, true, List, Option, None}
-use Rattle.hand_records.specs.WriteRefusals.{first_refusal}
-use Rattle.hand_records.specs.declared.writing.Keep.{Keep}
-use Rattle.hand_records.specs.declared.writing.WriteRefusal.{WriteRefusal}
+use Rattle.hand_canon.specs.WriteRefusals.{first_refusal}
+use Rattle.hand_canon.specs.declared.writing.Keep.{Keep}
+use Rattle.hand_canon.specs.declared.writing.WriteRefusal.{WriteRefusal}
 use Rattle.convert_core.specs.Meaning.{Meaning}
 use Rattle.convert_core.specs.Verdicts.{Verdict, legal_plays}
 

@@ -1,7 +1,7 @@
 -- Notes that are a part of others: each of them is either left out, or the others say it as well.
 use Rattle.std.specs.Prelude.{◌≡◌, ℕ, List, [], ◌∷◌, Option, Some, IfSome}
-use Rattle.hand_records.specs.NoteTable.{texts_listed}
-use Rattle.hand_records.specs.SaidNotes.{SaidNotes}
+use Rattle.hand_canon.specs.NoteTable.{texts_listed}
+use Rattle.hand_canon.specs.SaidNotes.{SaidNotes}
 
 -- if a note is said here, it is said there as well
 abbrev pub IsSaidThere : {A : Type 0} → (here there : Option A) → Type 0

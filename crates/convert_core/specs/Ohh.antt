@@ -2,8 +2,8 @@
 use Rattle.std.specs.Prelude.{◌≡◌, ℕ, ◌≤◌, true, List, length, map, Some, Ok, Err, sum_by}
 use Rattle.std.specs.List.{AllByRecursion}
 use Rattle.first_fault.specs.declared.limits.TheConstants.{MOST_FILE_MOVES, MOST_HANDS}
-use Rattle.hand_records.specs.declared.record.Record.{Record}
-use Rattle.hand_records.specs.declared.trace.Play.{Play}
+use Rattle.hand_canon.specs.declared.record.Record.{Record}
+use Rattle.hand_canon.specs.declared.trace.Play.{Play}
 use Rattle.ohh_format.specs.KeptNotes.{kept_in_ohh}
 use Rattle.ohh_writing.specs.Lines.{Spells}
 use Rattle.ohh_writing.specs.Spelled.{unspelled}
@@ -15,9 +15,9 @@ use Rattle.convert_core.specs.Meaning.{Meaning}
 use Rattle.convert_core.specs.Readings.{GivesHands}
 use Rattle.convert_core.specs.declared.format_fault.FormatFault.{FormatFault}
 use Rattle.convert_core.specs.declared.format_fault.FormatFault.TheVariants as formats
-use Rattle.hand_records.specs.Histories.{IsHistory}
-use Rattle.hand_records.specs.Moves.{moves_of}
-use Rattle.hand_records.specs.PlainHands.{plain}
+use Rattle.hand_canon.specs.Histories.{IsHistory}
+use Rattle.hand_canon.specs.Moves.{moves_of}
+use Rattle.hand_canon.specs.PlainHands.{plain}
 use Rattle.play_event.specs.HistoryRules.{history_rules}
 
 -- bytes say these records in a dialect: they are read as these, each as a reader returns it, and

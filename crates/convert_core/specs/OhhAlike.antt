@@ -2,8 +2,8 @@
 -- cannot be observed.
 -- This is a proof: no reader needs it.
 use Rattle.std.proofs.Common.{◌≡◌, ℕ, List, map, Ok, sym, ◌∙◌}
-use Rattle.hand_records.specs.declared.record.Record.{Record}
-use Rattle.hand_records.specs.PlainHands.{plain}
+use Rattle.hand_canon.specs.declared.record.Record.{Record}
+use Rattle.hand_canon.specs.PlainHands.{plain}
 use Rattle.ohh_members.specs.declared.dialect.Dialect.{Dialect}
 use Rattle.convert_core.specs.Ohh.{Say}
 use Rattle.convert_core.specs.PlainAlike.{all_alike}

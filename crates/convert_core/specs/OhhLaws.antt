@@ -3,18 +3,18 @@
 use Rattle.std.proofs.Common.{◌≡◌, ℕ, true, List, [], map, Some, None, Ok, refl}
 use Rattle.std.specs.List.{AllByRecursion}
 use Rattle.hand_canon.specs.Sound.{IsSound}
-use Rattle.hand_records.specs.declared.record.Record.{Record}
-use Rattle.hand_records.specs.declared.trace.Play.{Play}
-use Rattle.hand_records.specs.declared.writing.Keep.{Keep}
-use Rattle.hand_records.specs.declared.writing.Unspelled.{Unspelled}
-use Rattle.hand_records.specs.declared.writing.Unspelled.TheVariants as unspellables
+use Rattle.hand_canon.specs.declared.record.Record.{Record}
+use Rattle.hand_canon.specs.declared.trace.Play.{Play}
+use Rattle.hand_canon.specs.declared.writing.Keep.{Keep}
+use Rattle.hand_canon.specs.declared.writing.Unspelled.{Unspelled}
+use Rattle.hand_canon.specs.declared.writing.Unspelled.TheVariants as unspellables
 use Rattle.play_event.specs.HistoryRules.{history_rules}
 use Rattle.ohh_format.specs.Again.{hands_again}
 use Rattle.ohh_format.specs.KeptNotes.{kept_in_ohh}
 use Rattle.ohh_format.proofs.NoteFacts as note_facts
 use Rattle.ohh_format.proofs.OneForm as forms
-use Rattle.hand_records.specs.SaidNotes.{KeepsNotes}
-use Rattle.hand_records.specs.SameHands.{AreSameHands}
+use Rattle.hand_canon.specs.SaidNotes.{KeepsNotes}
+use Rattle.hand_canon.specs.SameHands.{AreSameHands}
 use Rattle.ohh_format.specs.Sharp as sharp_trees
 use Rattle.ohh_format.proofs.ReadBack.{read_back}
 use Rattle.ohh_format.proofs.Sharpness.{sharpness}
@@ -32,9 +32,9 @@ use Rattle.convert_core.specs.OhhAlike.{one_reading}
 use Rattle.convert_core.specs.OhhReads.{none_of_read, read_again, read_or_fail, say_as_many}
 use Rattle.convert_core.specs.declared.format_fault.FormatFault.{FormatFault}
 use Rattle.hand_canon.specs.Sharp.{IsOther, is_sharp}
-use Rattle.hand_records.specs.WriteRefusals.{first_refusal}
+use Rattle.hand_canon.specs.WriteRefusals.{first_refusal}
 use Rattle.convert_core.specs.UnderRules.{each_under}
-use Rattle.hand_records.specs.PlainHands.{plain}
+use Rattle.hand_canon.specs.PlainHands.{plain}
 
 -- what bytes say is what a reader may return for a file
 pub reads_file : (dialect : Dialect) (bytes : List ℕ) (hands : List Record)

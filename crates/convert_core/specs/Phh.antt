@@ -2,22 +2,22 @@
 use Rattle.std.specs.Prelude.{◌≡◌, ℕ, ◌≤◌, false, List, [], length, map, Some, Ok, Err, sum_by}
 use Rattle.std.specs.List.{AllByRecursion}
 use Rattle.first_fault.specs.declared.limits.TheConstants.{MOST_FILE_MOVES, MOST_HANDS}
-use Rattle.hand_records.specs.declared.record.Record.{Record}
-use Rattle.hand_records.specs.declared.trace.Play.{Play}
+use Rattle.hand_canon.specs.declared.record.Record.{Record}
+use Rattle.hand_canon.specs.declared.trace.Play.{Play}
 use Rattle.phh_format.specs.KeptNotes.{kept_in_phh}
 use Rattle.phh_format.specs.SameTables.{AreSameTable}
 use Rattle.phh_reading.specs.Reading.{Wrong, reading, wrong_of}
 use Rattle.phh_reading.specs.declared.fault.PhhFault.{PhhFault}
-use Rattle.phh_writing.specs.Document as written
-use Rattle.phh_writing.specs.Spelled.{unspelled}
+use Rattle.phh_format.specs.Document as written
+use Rattle.phh_format.specs.Spelled.{unspelled}
 use Rattle.play_event.specs.HistoryRules.{history_rules}
 use Rattle.convert_core.specs.Meaning.{Meaning}
 use Rattle.convert_core.specs.Readings.{GivesHands}
 use Rattle.convert_core.specs.declared.format_fault.FormatFault.{FormatFault}
 use Rattle.convert_core.specs.declared.format_fault.FormatFault.TheVariants as formats
-use Rattle.hand_records.specs.Histories.{IsHistory}
-use Rattle.hand_records.specs.Moves.{moves_of}
-use Rattle.hand_records.specs.PlainHands.{plain}
+use Rattle.hand_canon.specs.Histories.{IsHistory}
+use Rattle.hand_canon.specs.Moves.{moves_of}
+use Rattle.hand_canon.specs.PlainHands.{plain}
 
 -- bytes say these records: they are read as these, each as a reader returns it, and there are at
 -- most as many as a file may have

@@ -1,8 +1,8 @@
 -- Bytes of a hand history say only one list of records, up to differences that cannot be observed.
 -- This is a proof: no reader needs it.
 use Rattle.std.proofs.Common.{◌≡◌, ℕ, List, map, Ok, sym, ◌∙◌}
-use Rattle.hand_records.specs.declared.record.Record.{Record}
-use Rattle.hand_records.specs.PlainHands.{plain}
+use Rattle.hand_canon.specs.declared.record.Record.{Record}
+use Rattle.hand_canon.specs.PlainHands.{plain}
 use Rattle.convert_core.specs.Phh.{Say}
 use Rattle.convert_core.specs.PlainAlike.{all_alike}
 use Rattle.convert_core.specs.SameRecords.{AllAlike}

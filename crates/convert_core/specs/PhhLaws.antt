@@ -3,21 +3,21 @@
 use Rattle.std.proofs.Common.{◌≡◌, ℕ, true, List, map, Some, None, Ok}
 use Rattle.std.specs.List.{AllByRecursion}
 use Rattle.hand_canon.specs.Sound.{IsSound}
-use Rattle.hand_records.specs.declared.record.Record.{Record}
-use Rattle.hand_records.specs.declared.trace.Play.{Play}
-use Rattle.hand_records.specs.declared.writing.Unspelled.{Unspelled}
+use Rattle.hand_canon.specs.declared.record.Record.{Record}
+use Rattle.hand_canon.specs.declared.trace.Play.{Play}
+use Rattle.hand_canon.specs.declared.writing.Unspelled.{Unspelled}
 use Rattle.play_event.specs.HistoryRules.{history_rules}
 use Rattle.phh_format.specs.Again.{hands_again}
 use Rattle.phh_format.specs.KeptNotes.{kept_in_phh}
 use Rattle.phh_format.specs.SameTables.{AreSameTable}
 use Rattle.phh_format.proofs.OneForm as forms
-use Rattle.hand_records.specs.SaidNotes.{KeepsNotes}
-use Rattle.hand_records.specs.SameHands.{AreSameHands}
+use Rattle.hand_canon.specs.SaidNotes.{KeepsNotes}
+use Rattle.hand_canon.specs.SameHands.{AreSameHands}
 use Rattle.phh_format.proofs.ReadBack.{read_back}
 use Rattle.phh_format.proofs.Sharpness.{unspelled_unsaid}
 use Rattle.phh_format.proofs.SoundPlays.{sound_again}
 use Rattle.phh_reading.specs.Reading.{reading}
-use Rattle.phh_writing.specs.Spelled as facts
+use Rattle.phh_format.specs.Spelled as facts
 use Rattle.convert_core.specs.KeptParts as parts
 use Rattle.convert_core.specs.Lawful.{Lawful}
 use Rattle.convert_core.specs.Phh.{HaveFault, ReadAsHands, Say, Spell, meaning}
@@ -28,9 +28,9 @@ use Rattle.convert_core.specs.ReadBack.{ReadBack}
 use Rattle.convert_core.specs.Records.{AreFew, AreOfFile}
 use Rattle.convert_core.specs.declared.format_fault.FormatFault.{FormatFault}
 use Rattle.hand_canon.specs.Sharp.{IsOther, is_sharp}
-use Rattle.hand_records.specs.WriteRefusals.{first_refusal}
+use Rattle.hand_canon.specs.WriteRefusals.{first_refusal}
 use Rattle.convert_core.specs.UnderRules.{each_under}
-use Rattle.hand_records.specs.PlainHands.{plain}
+use Rattle.hand_canon.specs.PlainHands.{plain}
 
 -- what bytes say is what a reader may return for a file
 pub reads_file : (bytes : List ℕ) (hands : List Record) → Say bytes hands

@@ -3,8 +3,8 @@
 use Rattle.std.proofs.Common.{◌≡◌, ℕ, suc, ◌+◌, false, List, [], ◌∷◌, length, map, Some, Ok, Err, refl, ap}
 use Rattle.std.proofs.lemmas.List.{length-map}
 use Rattle.std.proofs.lemmas.Option.{same_Some}
-use Rattle.hand_records.specs.declared.record.Record.{Record}
-use Rattle.hand_records.specs.declared.trace.Play.{Play}
+use Rattle.hand_canon.specs.declared.record.Record.{Record}
+use Rattle.hand_canon.specs.declared.trace.Play.{Play}
 use Rattle.phh_reading.specs.declared.field_fault.FieldFaultKind.{FieldFaultKind}
 use Rattle.phh_reading.specs.declared.field_fault.FieldFaultKind.TheVariants as whats
 use Rattle.phh_format.specs.Again.{hands_again}
@@ -18,7 +18,7 @@ use Rattle.convert_core.specs.OneReading as readings
 use Rattle.convert_core.specs.ReadOrFail.{ReadOrFail}
 use Rattle.convert_core.specs.declared.format_fault.FormatFault.{FormatFault}
 use Rattle.convert_core.specs.declared.format_fault.FormatFault.TheVariants as formats
-use Rattle.hand_records.specs.PlainHands.{PlainHand, plain}
+use Rattle.hand_canon.specs.PlainHands.{PlainHand, plain}
 
 -- bytes say as many records as hands that they read as
 pub say_as_many : (bytes : List ℕ) (records : List Record) → Say bytes records

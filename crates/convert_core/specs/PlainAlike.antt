@@ -2,10 +2,10 @@
 -- This is a proof: no reader needs it.
 use Rattle.std.proofs.Common.{◌≡◌, ℕ, List, [], ◌∷◌, map, take, option_map, sym, subst, ap, ◌∙◌}
 use Rattle.std.specs.List.{AllByRecursion}
-use Rattle.hand_records.specs.AllowedNotes.{AreAllowed}
-use Rattle.hand_records.specs.declared.record.Record.{Record}
-use Rattle.hand_records.specs.Histories.{IsHistory}
-use Rattle.hand_records.specs.PlainHands.{PlainHand, plain}
+use Rattle.hand_canon.specs.AllowedNotes.{AreAllowed}
+use Rattle.hand_canon.specs.declared.record.Record.{Record}
+use Rattle.hand_canon.specs.Histories.{IsHistory}
+use Rattle.hand_canon.specs.PlainHands.{PlainHand, plain}
 use Rattle.hand_canon.proofs.SamePlay.{same_rules, same_script, same_setup, same_stated}
 use Rattle.play_event.specs.declared.setup.Setup.{Setup}
 use Rattle.convert_core.specs.SameParts.{names_same}

@@ -3,18 +3,18 @@
 use Rattle.std.proofs.Common.{◌≡◌, Bool, true, false, if◌then◌else◌, List, [], ◌∷◌, Option, Some, None, IfSome, refl}
 use Rattle.std.specs.List.{AllByRecursion, list_any}
 use Rattle.acpc_game.specs.declared.game.Game.{Game}
-use Rattle.acpc_writing.specs.PlayFacts.{play_conditions}
-use Rattle.acpc_writing.specs.SetupFacts.{setup_conditions}
-use Rattle.acpc_writing.specs.Spelled.{unspelled as unspelled_in_acpc, unspelled_note}
+use Rattle.acpc_format.specs.PlayFacts.{play_conditions}
+use Rattle.acpc_format.specs.SetupFacts.{setup_conditions}
+use Rattle.acpc_format.specs.Spelled.{unspelled as unspelled_in_acpc, unspelled_note}
 use Rattle.convert_core.specs.Lawful.{is_note}
 use Rattle.first_fault.specs.Conditions.{first_where}
-use Rattle.hand_records.specs.WriteRefusals.{or_behind}
-use Rattle.hand_records.specs.declared.trace.Play.{Play}
-use Rattle.hand_records.specs.declared.writing.Keep.TheVariants as keeps
-use Rattle.hand_records.specs.declared.writing.Unspelled.{Unspelled}
-use Rattle.hand_records.specs.declared.writing.Unspelled.TheVariants as facts
+use Rattle.hand_canon.specs.WriteRefusals.{or_behind}
+use Rattle.hand_canon.specs.declared.trace.Play.{Play}
+use Rattle.hand_canon.specs.declared.writing.Keep.TheVariants as keeps
+use Rattle.hand_canon.specs.declared.writing.Unspelled.{Unspelled}
+use Rattle.hand_canon.specs.declared.writing.Unspelled.TheVariants as facts
 use Rattle.ohh_writing.specs.Spelled.{first_unspelled, trace_facts, unspelled as unspelled_in_ohh}
-use Rattle.phh_writing.specs.Spelled.{unspelled as unspelled_in_phh}
+use Rattle.phh_format.specs.Spelled.{unspelled as unspelled_in_phh}
 use Rattle.play_event.specs.declared.played.Move.{Move}
 
 abbrev NoNote : Option Unspelled → Type 0

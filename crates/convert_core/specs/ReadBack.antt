@@ -1,9 +1,9 @@
 -- What it means that bytes read back as plays.
 use Rattle.std.specs.Prelude.{ℕ, List, length}
 use Rattle.hand_canon.specs.ReadAgain.{AreAgain}
-use Rattle.hand_records.specs.declared.notes.Notes.{Notes}
-use Rattle.hand_records.specs.declared.record.Record.{Record}
-use Rattle.hand_records.specs.declared.trace.Play.{Play}
+use Rattle.hand_canon.specs.declared.notes.Notes.{Notes}
+use Rattle.hand_canon.specs.declared.record.Record.{Record}
+use Rattle.hand_canon.specs.declared.trace.Play.{Play}
 use Rattle.convert_core.specs.declared.format_fault.FormatFault.{FormatFault}
 
 -- Bytes read back as plays in a notation: they read as the same number of hands as there are plays,

@@ -3,11 +3,11 @@
 use Rattle.std.specs.Prelude.{◌≡◌, ◌≤◌, List, length, sum_by}
 use Rattle.std.specs.List.{AllByRecursion}
 use Rattle.first_fault.specs.declared.limits.TheConstants.{MOST_FILE_MOVES, MOST_HANDS}
-use Rattle.hand_records.specs.SoundRecord.{IsSoundRecord}
-use Rattle.hand_records.specs.declared.record.Record.{Record}
-use Rattle.hand_records.specs.declared.trace.Play.{Play}
+use Rattle.hand_canon.specs.SoundRecord.{IsSoundRecord}
+use Rattle.hand_canon.specs.declared.record.Record.{Record}
+use Rattle.hand_canon.specs.declared.trace.Play.{Play}
 use Rattle.play_event.specs.declared.setup.Rules.{Rules}
-use Rattle.hand_records.specs.Moves.{moves_of, moves_played}
+use Rattle.hand_canon.specs.Moves.{moves_of, moves_played}
 
 -- a record is sound, and under these rules
 pub record IsUnder (rules : Rules) (hand : Record) : Type 0 where

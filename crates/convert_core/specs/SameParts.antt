@@ -3,10 +3,10 @@
 use Rattle.std.proofs.Common.{◌≡◌, ℕ, ◌≤◌, inl, inr, List, map, take, get_or, slice_index_or, Option, None, sym, ap, ◌∙◌}
 use Rattle.std.proofs.lemmas.Bool.{cases_lt}
 use Rattle.std.proofs.lemmas.List.{get_or-take}
-use Rattle.hand_records.specs.declared.record.Record.{Record}
+use Rattle.hand_canon.specs.declared.record.Record.{Record}
 use Rattle.hand_canon.proofs.SamePlay.{same_script}
 use Rattle.play_event.specs.Said.{Numbered, numbered}
-use Rattle.hand_records.specs.PlainHands.{plain}
+use Rattle.hand_canon.specs.PlainHands.{plain}
 
 -- scripts with the same events are equal, as in hand histories
 pub one_script : (a b : Record) → map numbered a.script ≡ map numbered b.script

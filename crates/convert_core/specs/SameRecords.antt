@@ -1,9 +1,9 @@
 -- Records that say the same, so that bytes cannot tell them apart.
 use Rattle.std.specs.Prelude.{◌≡◌, ℕ, List, [], ◌∷◌, take, None, option_map, slice_index_or}
-use Rattle.hand_records.specs.NoteTable.{texts_of}
-use Rattle.hand_records.specs.declared.notes.Notes.{Notes}
-use Rattle.hand_records.specs.declared.record.Record.{Record}
-use Rattle.hand_records.specs.declared.trace.Play.{Play}
+use Rattle.hand_canon.specs.NoteTable.{texts_of}
+use Rattle.hand_canon.specs.declared.notes.Notes.{Notes}
+use Rattle.hand_canon.specs.declared.record.Record.{Record}
+use Rattle.hand_canon.specs.declared.trace.Play.{Play}
 
 -- two records say the same of their play
 pub record SayTheSame (a b : Record) : Type 0 where

@@ -4,8 +4,8 @@ use Rattle.std.specs.Prelude.{ℕ, Bool, true, false}
 use Rattle.std.specs.Coded.{le_prop}
 use Rattle.std.proofs.Props.{props}
 use Rattle.play_event.specs.ValidSetup.{IsSizeWhere}
-use Rattle.hand_records.specs.SoundRecord.{IsSoundRecord}
-use Rattle.hand_records.specs.declared.record.Record.{Record}
+use Rattle.hand_canon.specs.SoundRecord.{IsSoundRecord}
+use Rattle.hand_canon.specs.declared.record.Record.{Record}
 
 -- a bet size is allowed in one way
 IsSizeWhere-prop : (used : Bool) (chips : ℕ) → IsProp (IsSizeWhere used chips)

@@ -1,7 +1,7 @@
 -- What a visitor has visited.
 use Rattle.std.specs.Prelude.{◌≡◌, ◌≤◌, ℕ, Bool, true, false, List, length}
-use Rattle.hand_records.specs.declared.record.Record.{Record}
-use Rattle.hand_records.specs.declared.trace.Play.{Play}
+use Rattle.hand_canon.specs.declared.record.Record.{Record}
+use Rattle.hand_canon.specs.declared.trace.Play.{Play}
 use Rattle.convert_core.specs.Verdicts.{AreLegalUnless, AreVerdictsOn, Verdict, legal_plays}
 
 -- This number of verdicts was visited.

@@ -3,8 +3,8 @@
 use Rattle.std.specs.Prelude.{List, [], ◌∷◌}
 use Rattle.std.specs.List.{AllByRecursion}
 use Rattle.convert_core.specs.Records.{IsUnder}
-use Rattle.hand_records.specs.Histories.{IsHistory}
-use Rattle.hand_records.specs.declared.record.Record.{Record}
+use Rattle.hand_canon.specs.Histories.{IsHistory}
+use Rattle.hand_canon.specs.declared.record.Record.{Record}
 use Rattle.play_event.specs.HistoryRules.{history_rules}
 
 -- each hand that bytes say is played under the rules of its notation

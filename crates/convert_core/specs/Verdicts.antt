@@ -1,8 +1,8 @@
 -- The verdict on a hand: legal, and in agreement with what it states, or refused, and why.
 use Rattle.std.specs.Prelude.{◌≡◌, ℕ, ◌+◌, Bool, false, List, [], ◌∷◌, ◌++◌, length, map, All}
 use Rattle.hand_canon.specs.LegalPlay.{IsLegalPlay}
-use Rattle.hand_records.specs.declared.record.Record.{Record}
-use Rattle.hand_records.specs.declared.trace.Play.{Play}
+use Rattle.hand_canon.specs.declared.record.Record.{Record}
+use Rattle.hand_canon.specs.declared.trace.Play.{Play}
 use Rattle.convert_core.specs.Judged.{IsRefusedFor}
 use Rattle.convert_core.specs.declared.refusal.Refusal.{Refusal}
 

@@ -9,7 +9,7 @@ use crate::notation::Notation;
 use acpc_format::Game;
 use acpc_reading::hand_lines;
 use card_set::Memory;
-use hand_records::{Keep, Play, Records, Unspelled, WriteRefusal};
+use hand_canon::{Keep, Play, Records, Unspelled, WriteRefusal};
 use play_event::{Reopen, Rules};
 use std::alloc::Global;
 

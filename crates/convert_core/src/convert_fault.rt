@@ -5,7 +5,7 @@ ghost use Rattle.convert_core.specs.Conversion.{of_plays};
 use crate::format_fault::FormatFault;
 use crate::refusal::{PlaysFault, Refusal};
 use card_set::Memory;
-use hand_records::Unspelled;
+use hand_canon::Unspelled;
 
 /// Why bytes are not converted. Hands are counted from 1, in the order of reading.
 #[derive(Debug, Drop)]

@@ -12,7 +12,7 @@ use crate::lines::write_records;
 use crate::notation::Notation;
 use crate::retained_plays::plays_of;
 use crate::sound_records::SoundRecords;
-use hand_records::{Keep, Play, WriteRefusal};
+use hand_canon::{Keep, Play, WriteRefusal};
 use std::alloc::Global;
 
 /// Writes the hands of `bytes` in another notation, if it can express each fact to be kept. The

@@ -9,7 +9,7 @@ use crate::ohh::Ohh;
 use crate::phh::Phh;
 use acpc_format::Game;
 use card_set::Memory;
-use hand_records::{Keep, Play, Records, Unspelled, WriteRefusal};
+use hand_canon::{Keep, Play, Records, Unspelled, WriteRefusal};
 use ohh_format::Dialect;
 use play_event::Rules;
 use std::alloc::Global;

@@ -4,7 +4,7 @@ ghost use Rattle.first_fault.specs.declared.limits.TheConstants.{MOST_HANDS};
 ghost use Rattle.hand_canon.specs.LegalPlay.{IsLegalPlay};
 ghost use Rattle.hand_canon.specs.Sound.{IsSound};
 
-use hand_records::Play;
+use hand_canon::Play;
 use std::marker::Model;
 
 /// The place of a hand in its file, from 0: below the most hands of a file.
@@ -23,7 +23,7 @@ pub struct JudgedPlay<'a> {
 impl<'a> Model for JudgedPlay<'a> {
     ghost use Rattle.hand_canon.specs.LegalPlay.{IsLegalPlay};
     ghost use Rattle.hand_canon.specs.Sound.{IsSound};
-    ghost use Rattle.hand_records.specs.declared.trace.Play.{Play as AnyPlay};
+    ghost use Rattle.hand_canon.specs.declared.trace.Play.{Play as AnyPlay};
 
     ghost Value = { AnyPlay };
 

@@ -1,14 +1,13 @@
 //! Replays each record and compares what it states with its trace.
 ghost use Rattle.std.specs.Prelude.{◌≡◌, ◌+◌, IfErr, OnErr, OnOk};
-ghost use Rattle.hand_records.specs.SoundRecord.{IsSoundRecord};
+ghost use Rattle.hand_canon.specs.SoundRecord.{IsSoundRecord};
 ghost use Rattle.convert_core.specs.Judged.{IsFaultAt, IsOneMorePlay};
 ghost use Rattle.convert_core.specs.declared.refusal.PlaysFault.TheVariants as plays_faults;
 
 use crate::judged_play::HandIndex;
 use crate::refusal::{PlaysFault, Refusal};
 use card_set::TryPush;
-use hand_canon::check_stated;
-use hand_records::{Play, Record};
+use hand_canon::{Play, Record, check_stated};
 use replay_core::{ReplayFault, replay};
 use std::alloc::Global;
 

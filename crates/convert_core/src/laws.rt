@@ -2,12 +2,12 @@
 //! file of it says, and equal hands give equal outputs.
 ghost use Rattle.std.specs.Prelude.{◌≡◌, ◌<◌, ◌↔◌, ℕ, true, List, None, Ok, Some, Result, map};
 ghost use Rattle.std.specs.List.{AllByRecursion};
-ghost use Rattle.hand_records.specs.SaidNotes.{notes_of};
-ghost use Rattle.hand_records.specs.SameHands.{AreSameHands, kept_notes};
-ghost use Rattle.hand_records.specs.declared.record.Record.{Record};
-ghost use Rattle.hand_records.specs.declared.trace.Play.{Play};
-ghost use Rattle.hand_records.specs.declared.writing.Keep.TheVariants as keeps;
-ghost use Rattle.hand_records.specs.declared.writing.Unspelled.{Unspelled};
+ghost use Rattle.hand_canon.specs.SaidNotes.{notes_of};
+ghost use Rattle.hand_canon.specs.SameHands.{AreSameHands, kept_notes};
+ghost use Rattle.hand_canon.specs.declared.record.Record.{Record};
+ghost use Rattle.hand_canon.specs.declared.trace.Play.{Play};
+ghost use Rattle.hand_canon.specs.declared.writing.Keep.TheVariants as keeps;
+ghost use Rattle.hand_canon.specs.declared.writing.Unspelled.{Unspelled};
 ghost use Rattle.convert_core.specs.Answers.{Answers};
 ghost use Rattle.convert_core.specs.Conversion.{HasUnspelled, ReadAsPlays, ReadAsRefused, RefusesNothing};
 ghost use Rattle.convert_core.specs.Judged.{ArePlaysOf, IsFirstRefused};
@@ -21,10 +21,10 @@ ghost use Rattle.convert_core.specs.Verdicts.{AreVerdictsOn, IsFirstNotLegal, Le
 ghost use Rattle.convert_core.specs.declared.convert_fault.ConvertFault.{ConvertFault};
 ghost use Rattle.convert_core.specs.declared.refusal.Refusal.{Refusal};
 ghost use Rattle.convert_core.specs.declared.format_fault.FormatFault.{FormatFault};
-ghost use Rattle.hand_records.specs.WriteRefusals.{first_refusal};
+ghost use Rattle.hand_canon.specs.WriteRefusals.{first_refusal};
 
 use crate::notation::Notation;
-use hand_records::Keep;
+use hand_canon::Keep;
 
 /// Records have at most one list of plays and at most one first refused hand, refused for one
 /// reason; and never both. The function does nothing: its contract is a law.

@@ -27,7 +27,6 @@ pub use converting::{convert, plays, read_records};
 pub use format::Format;
 pub use format_fault::FormatFault;
 pub use judged_play::{HandIndex, JudgedPlay};
-pub use retained_plays::plays_of;
 pub use laws::{
     law_of_converting_again, law_of_converting_by_way, law_of_equal_outputs, law_of_kept_notes,
     law_of_legal_conversions, law_of_one_conversion, law_of_one_outcome, law_of_sharpness,
@@ -37,6 +36,7 @@ pub use notation::Notation;
 pub use ohh::Ohh;
 pub use phh::Phh;
 pub use refusal::{PlaysFault, Refusal};
+pub use retained_plays::plays_of;
 pub use sound_records::{SoundRecord, SoundRecords};
 pub use taking::judge_all;
 pub use visitor::VerdictVisitor;

@@ -12,7 +12,7 @@ use crate::sound_records::SoundRecords;
 use crate::taking::judge_all;
 use crate::visitor::VerdictVisitor;
 use card_set::Memory;
-use hand_records::{Keep, WriteRefusal};
+use hand_canon::{Keep, WriteRefusal};
 use std::alloc::Global;
 
 // The lines of the hands so far.

@@ -4,15 +4,15 @@ ghost use Rattle.std.specs.Prelude.{◌≡◌, ◌⊎◌, ◌≤◌, true, false
 ghost use Rattle.std.specs.List.{AllByRecursion};
 ghost use Rattle.first_fault.specs.declared.limits.TheConstants.{MOST_HANDS};
 ghost use Rattle.hand_canon.specs.Sound.{IsSound};
-ghost use Rattle.hand_records.specs.WriteRefusals.{IsOutOfMemory, first_refusal};
-ghost use Rattle.hand_records.specs.declared.trace.Play.{Play as AnyPlay};
+ghost use Rattle.hand_canon.specs.WriteRefusals.{IsOutOfMemory, first_refusal};
+ghost use Rattle.hand_canon.specs.declared.trace.Play.{Play as AnyPlay};
 ghost use Rattle.convert_core.specs.Faults.{is_out_of_memory};
 ghost use Rattle.convert_core.specs.Lawful.{Lawful};
 ghost use Rattle.convert_core.specs.Meaning.{Meaning};
 
 use crate::format_fault::FormatFault;
 use card_set::Memory;
-use hand_records::{Keep, Play, Records, Unspelled, WriteRefusal};
+use hand_canon::{Keep, Play, Records, Unspelled, WriteRefusal};
 use play_event::Rules;
 use std::alloc::Global;
 

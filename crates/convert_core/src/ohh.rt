@@ -7,7 +7,7 @@ ghost use Rattle.convert_core.specs.Ohh as in_ohh;
 use crate::format_fault::FormatFault;
 use crate::notation::Notation;
 use card_set::Memory;
-use hand_records::{Keep, Play, Records, Unspelled, WriteRefusal};
+use hand_canon::{Keep, Play, Records, Unspelled, WriteRefusal};
 use ohh_format::Dialect;
 use ohh_reading::block_lines;
 use play_event::{Reopen, Rules};

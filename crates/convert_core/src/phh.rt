@@ -7,7 +7,7 @@ ghost use Rattle.convert_core.specs.PhhLaws as laws;
 use crate::format_fault::FormatFault;
 use crate::notation::Notation;
 use card_set::Memory;
-use hand_records::{Keep, Play, Records, Unspelled, WriteRefusal};
+use hand_canon::{Keep, Play, Records, Unspelled, WriteRefusal};
 use play_event::{Reopen, Rules};
 use std::alloc::Global;
 

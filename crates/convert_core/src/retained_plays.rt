@@ -9,7 +9,7 @@ use crate::sound_records::SoundRecords;
 use crate::taking::judge_all;
 use crate::visitor::VerdictVisitor;
 use card_set::Memory;
-use hand_records::Play;
+use hand_canon::Play;
 use std::alloc::Global;
 
 // Visits hands and does nothing with them but retain their plays.

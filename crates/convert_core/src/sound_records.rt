@@ -2,10 +2,10 @@
 //! have.
 ghost use Rattle.std.specs.Prelude.{◌≡◌, ◌<◌, ◌≤◌, All, Some, length, slice_get};
 ghost use Rattle.first_fault.specs.declared.limits.TheConstants.{MOST_HANDS};
-ghost use Rattle.hand_records.specs.SoundRecord.{IsSoundRecord};
+ghost use Rattle.hand_canon.specs.SoundRecord.{IsSoundRecord};
 ghost use Rattle.convert_core.specs.SoundOnce.{IsSoundRecord-prop};
 
-use hand_records::{Record, Records};
+use hand_canon::{Record, Records};
 use std::marker::Model;
 
 /// The records of a file, in order. Each is sound, and they are at most as many as a file may have.
@@ -17,8 +17,8 @@ pub struct SoundRecords {
 impl Model for SoundRecords {
     ghost use Rattle.std.specs.Prelude.{◌≤◌, All, List, length};
     ghost use Rattle.first_fault.specs.declared.limits.TheConstants.{MOST_HANDS};
-    ghost use Rattle.hand_records.specs.SoundRecord.{IsSoundRecord};
-    ghost use Rattle.hand_records.specs.declared.record.Record.{Record as AnyRecord};
+    ghost use Rattle.hand_canon.specs.SoundRecord.{IsSoundRecord};
+    ghost use Rattle.hand_canon.specs.declared.record.Record.{Record as AnyRecord};
 
     ghost Value = { List AnyRecord };
 

@@ -4,9 +4,9 @@ ghost use Rattle.card_set.specs.declared.room.TheConstants.{MOST_ROOM};
 ghost use Rattle.convert_core.specs.Judged.{IsFaultAt, IsPlaysFaultOf, IsPlaysOutOfMemory, IsRefusedFor};
 ghost use Rattle.convert_core.specs.declared.refusal.PlaysFault.TheVariants as plays_faults;
 ghost use Rattle.first_fault.specs.declared.limits.TheConstants.{MOST_HANDS};
-ghost use Rattle.hand_records.specs.SoundRecord.{IsSoundRecord};
-ghost use Rattle.hand_records.specs.declared.record.Record.{Record as AnyRecord};
-ghost use Rattle.hand_records.specs.declared.trace.Play.{Play as AnyPlay};
+ghost use Rattle.hand_canon.specs.SoundRecord.{IsSoundRecord};
+ghost use Rattle.hand_canon.specs.declared.record.Record.{Record as AnyRecord};
+ghost use Rattle.hand_canon.specs.declared.trace.Play.{Play as AnyPlay};
 ghost use Rattle.convert_core.specs.Taking.{AreTaken, HasTaken};
 
 use crate::judged_play::{HandIndex, JudgedPlay};
@@ -15,7 +15,7 @@ use crate::refusal::{PlaysFault, Refusal};
 use crate::sound_records::SoundRecords;
 use crate::visitor::VerdictVisitor;
 use card_set::list_with_room;
-use hand_records::{Play, Record};
+use hand_canon::{Play, Record};
 use std::alloc::Global;
 
 /// Passes the verdict on each record to a visitor, in their order, and returns the plays that are

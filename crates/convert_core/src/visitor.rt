@@ -1,7 +1,7 @@
 //! A visitor of the verdicts on hands.
 ghost use Rattle.std.specs.Prelude.{◌≡◌, ◌++◌, [], ◌∷◌, Bool, true, List, length, OnOk};
 ghost use Rattle.convert_core.specs.Judged.{IsRefusedFor};
-ghost use Rattle.hand_records.specs.declared.record.Record.{Record as AnyRecord};
+ghost use Rattle.hand_canon.specs.declared.record.Record.{Record as AnyRecord};
 ghost use Rattle.convert_core.specs.Taking.{HasTaken};
 ghost use Rattle.convert_core.specs.Verdicts.{AreLegalUnless, Legal, Refused, Verdict};
 

@@ -6,16 +6,16 @@ use Rattle.chip_ledger.specs.declared.numbers.Seat.{Seat}
 use Rattle.chip_ledger.proofs.Same.{seat_same}
 use Rattle.hand_canon.proofs.SameSetups.{amounts_same, rakes_same, setups_same}
 use Rattle.card_set.proofs.Options.{options_same}
-use Rattle.hand_records.specs.declared.record.Record.{Record}
+use Rattle.hand_canon.specs.declared.record.Record.{Record}
 use Rattle.play_event.specs.declared.event.Event.{Event}
 use Rattle.play_event.specs.declared.event.Kind.{Kind}
 use Rattle.play_event.specs.declared.event.Kind.TheVariants as kinds
 use Rattle.play_event.specs.declared.setup.Setup.{Setup}
 use Rattle.play_event.specs.Said.{Numbered, kind_said, numbered, seat_named}
-use Rattle.hand_records.specs.PlainHands.{PlainHand, PlainSetup, plain, plain_setup}
+use Rattle.hand_canon.specs.PlainHands.{PlainHand, PlainSetup, plain, plain_setup}
 use Rattle.card_set.proofs.Lists.{lists_same}
 use Rattle.chip_ledger.specs.SeatRow.{amounts_in}
-use Rattle.hand_records.specs.StatedFacts.{stated_from}
+use Rattle.hand_canon.specs.StatedFacts.{stated_from}
 
 actor_same : (a b : Option Seat) → seat_named a ≡ seat_named b → a ≡ b
 actor_same a b same = options_same (λ (seat : Seat). seat.number) seat_same a b same

@@ -4,7 +4,7 @@ use Rattle.chip_ledger.specs.SeatRow.{amount_of}
 use Rattle.play_event.specs.Past.{Past}
 use Rattle.play_event.specs.declared.setup.Setup.{Setup}
 use Rattle.play_event.specs.TraceCore.{TraceCore, core_of}
-use Rattle.hand_records.specs.declared.trace.Trace.{Trace}
+use Rattle.hand_canon.specs.declared.trace.Trace.{Trace}
 use Rattle.chip_ledger.specs.PotRow.{plain_shares}
 use Rattle.hand_canon.specs.WholeTrace.{HasShares, IsTraceOf}
 

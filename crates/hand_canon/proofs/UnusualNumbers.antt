@@ -1,10 +1,10 @@
 -- The seat numbers of a sound play are not the default ones.
 use Rattle.std.proofs.Common.{ℕ, List, Option, Some, None, IfSome, subst, sym}
 use Rattle.hand_canon.specs.Sound.{IsSound}
-use Rattle.hand_records.specs.AllowedNotes.{AreSeatNumbers}
-use Rattle.hand_records.specs.declared.trace.Play.{Play}
+use Rattle.hand_canon.specs.AllowedNotes.{AreSeatNumbers}
+use Rattle.hand_canon.specs.declared.trace.Play.{Play}
 use Rattle.play_event.specs.declared.setup.Setup.{Setup}
-use Rattle.hand_records.proofs.NoteLaws.{AreUnusual}
+use Rattle.hand_canon.proofs.NoteLaws.{AreUnusual}
 
 allowed_unusual : (count : ℕ) (numbers : Option (List ℕ)) → IfSome numbers (AreSeatNumbers count) → AreUnusual count numbers
 allowed_unusual count None are = tt

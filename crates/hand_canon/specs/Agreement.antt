@@ -12,10 +12,10 @@ use Rattle.play_event.specs.Seats.{all_seats}
 use Rattle.hand_canon.specs.declared.agreement.FactDiffers.{FactDiffers}
 use Rattle.hand_canon.specs.declared.agreement.Which.{Which}
 use Rattle.hand_canon.specs.declared.agreement.Which.TheVariants as whiches
-use Rattle.hand_records.specs.declared.record.NetRow.{NetRow}
-use Rattle.hand_records.specs.declared.record.Stated.{Stated}
-use Rattle.hand_records.specs.declared.trace.Trace.{Trace}
-use Rattle.hand_records.specs.NetRow.{net_of}
+use Rattle.hand_canon.specs.declared.record.NetRow.{NetRow}
+use Rattle.hand_canon.specs.declared.record.Stated.{Stated}
+use Rattle.hand_canon.specs.declared.trace.Trace.{Trace}
+use Rattle.hand_canon.specs.NetRow.{net_of}
 
 -- a fact that may be stated: a seat's finishing stack, what it wins from the pots, the total of the
 -- pots, or its net result

@@ -1,8 +1,8 @@
 -- Hands that are read back from what was written of plays.
 use Rattle.std.specs.Prelude.{◌≡◌, ℕ, ◌+◌, List, [], ◌∷◌}
-use Rattle.hand_records.specs.declared.notes.Notes.{Notes}
-use Rattle.hand_records.specs.declared.record.Record.{Record}
-use Rattle.hand_records.specs.declared.trace.Play.{Play}
+use Rattle.hand_canon.specs.declared.notes.Notes.{Notes}
+use Rattle.hand_canon.specs.declared.record.Record.{Record}
+use Rattle.hand_canon.specs.declared.trace.Play.{Play}
 use Rattle.hand_canon.specs.LegalPlay.{IsLegalPlay}
 
 -- a hand is that of a play read back: it is legal under its own rules and has the whole trace of

@@ -14,7 +14,7 @@ use Rattle.play_event.specs.SeatSlots.{slots_of_hand}
 use Rattle.play_event.specs.Past.{is_fold}
 use Rattle.play_event.specs.Played.{act_said, move_said}
 use Rattle.play_event.specs.CanonScript.{move_named, plain_move}
-use Rattle.hand_records.specs.TraceRows.{place_said}
+use Rattle.hand_canon.specs.TraceRows.{place_said}
 
 -- a move is a fold by a seat
 abbrev pub is_fold_of : ℕ → Move → Bool

@@ -2,10 +2,10 @@
 -- trace of a play.
 use Rattle.std.specs.Prelude.{Bool, false, true}
 use Rattle.hand_canon.specs.LegalPlay.{IsTraceOfLegal}
-use Rattle.hand_records.specs.declared.record.Record.{Record}
-use Rattle.hand_records.specs.declared.trace.Play.{Play}
-use Rattle.hand_records.specs.declared.writing.Unspelled.{Unspelled}
-use Rattle.hand_records.specs.declared.writing.Unspelled.TheVariants as facts
+use Rattle.hand_canon.specs.declared.record.Record.{Record}
+use Rattle.hand_canon.specs.declared.trace.Play.{Play}
+use Rattle.hand_canon.specs.declared.writing.Unspelled.{Unspelled}
+use Rattle.hand_canon.specs.declared.writing.Unspelled.TheVariants as facts
 
 -- a hand is not that of a play: it is not legal with the trace of the play
 abbrev pub IsOther : Play → Record → Type 0

@@ -1,9 +1,9 @@
 -- Sound plays: a valid setup, a legal script within the limits, its trace, and allowed notes.
 use Rattle.play_event.specs.Scripts.{past_at_end}
 use Rattle.play_event.specs.ValidSetup.{IsValid}
-use Rattle.hand_records.specs.declared.trace.Play.{Play}
-use Rattle.hand_records.specs.AllowedNotes.{AreAllowed}
-use Rattle.hand_records.specs.SoundRecord.{script_said}
+use Rattle.hand_canon.specs.declared.trace.Play.{Play}
+use Rattle.hand_canon.specs.AllowedNotes.{AreAllowed}
+use Rattle.hand_canon.specs.SoundRecord.{script_said}
 use Rattle.play_event.specs.PlayedScript.{IsWithinLimits}
 use Rattle.hand_canon.specs.LegalHand.{IsLegalHand}
 use Rattle.hand_canon.specs.WholeTrace.{IsTraceOf}

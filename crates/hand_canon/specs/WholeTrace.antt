@@ -9,10 +9,10 @@ use Rattle.play_event.specs.declared.setup.Setup.{Setup}
 use Rattle.play_event.specs.Past.{Past}
 use Rattle.play_event.specs.Stakes.{finishing_stack}
 use Rattle.variant_table.specs.Shares.{AllShared}
-use Rattle.hand_records.specs.declared.trace.Trace.{Trace}
+use Rattle.hand_canon.specs.declared.trace.Trace.{Trace}
 use Rattle.play_event.specs.TraceCore.{TraceCore, core_of}
 use Rattle.play_event.specs.CanonScript.{plain_moves}
-use Rattle.hand_records.specs.TraceRows.{core_said}
+use Rattle.hand_canon.specs.TraceRows.{core_said}
 use Rattle.hand_canon.specs.LegalHand.{showdown_in}
 
 -- each row of a trace is of this number of seats

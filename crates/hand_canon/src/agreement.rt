@@ -6,10 +6,11 @@ ghost use Rattle.chip_ledger.specs.SeatRow.{amount_of};
 ghost use Rattle.chip_ledger.specs.declared.seat_row.TheConstants.{MOST_AMOUNT};
 ghost use Rattle.hand_canon.specs.Agreement.{HasBoundedPots, comparison, difference_of, difference_said, finish_compared, first_difference, is_different, pot_total_of, seats_compared, total_compared, value_compared, value_of, which_said, win_compared, win_of};
 ghost use Rattle.hand_canon.specs.DifferingFact.{differs_text, which_text};
-ghost use Rattle.hand_records.specs.SoundRecord.{IsStatedFor};
+ghost use Rattle.hand_canon.specs.SoundRecord.{IsStatedFor};
 
+use crate::record::{NetRow, Stated};
+use crate::trace::Trace;
 use chip_ledger::{Seat, SeatRow};
-use hand_records::{NetRow, Stated, Trace};
 use std::fmt;
 
 /// A fact that a record may state of the end of a hand.

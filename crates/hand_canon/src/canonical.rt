@@ -8,16 +8,16 @@ ghost use Rattle.card_set.specs.Row.{slots_of};
 ghost use Rattle.play_event.specs.CanonScript.{board_said, canonical_script, deal_said, deals_said, discards_said, move_named, plain_move, plain_moves, showdown_said};
 ghost use Rattle.hand_canon.specs.RowTests.{discards_from, said_on, showings_from};
 ghost use Rattle.play_event.specs.Tidy.{HasTidyCards, IsTidy};
-ghost use Rattle.hand_records.specs.TraceRows.{core_said};
+ghost use Rattle.hand_canon.specs.TraceRows.{core_said};
 ghost use Rattle.hand_canon.specs.SaidSoFar.{words_of};
 
 use crate::folds::{count_unfolded, folds, folds_before};
 use crate::gathered::{dealt_to_board, dealt_to_seats, discarded_by_seats, held_by_seats};
 use crate::numbered::Numbered;
 use crate::streets::{count_streets, draws};
+use crate::trace::Trace;
 use card_set::{Memory, SlotRow};
 use chip_ledger::{LiveRow, Seat};
-use hand_records::Trace;
 use play_event::{Act, HandRow, Kind, Move, Script, Spelled};
 use std::alloc::Global;
 

@@ -5,7 +5,7 @@ ghost use Rattle.card_set.specs.Row.{slots_of};
 ghost use Rattle.play_event.specs.SeatSlots.{slots_of_hand};
 ghost use Rattle.play_event.specs.CanonScript.{dealt_slots, discarded_slots, held_slots};
 ghost use Rattle.hand_canon.specs.RowTests.{slot_for};
-ghost use Rattle.hand_records.specs.TraceRows.{place_said};
+ghost use Rattle.hand_canon.specs.TraceRows.{place_said};
 
 use card_set::SlotRow;
 use play_event::{HandRow, Place};

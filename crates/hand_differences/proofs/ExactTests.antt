@@ -11,7 +11,7 @@ use Rattle.card_set.specs.declared.card.Slot.{Slot}
 use Rattle.card_set.specs.declared.card.Slot.TheVariants as slots
 use Rattle.chip_ledger.proofs.Same.{seat_same}
 use Rattle.chip_ledger.specs.declared.numbers.Seat.{Seat}
-use Rattle.hand_records.specs.declared.notes.Clock.{Clock}
+use Rattle.hand_canon.specs.declared.notes.Clock.{Clock}
 use Rattle.play_event.proofs.OwnerLaws.{is_same_owner-self, is_same_owner-true}
 use Rattle.play_event.specs.Code.{code_text}
 use Rattle.play_event.specs.Games.{all_games}

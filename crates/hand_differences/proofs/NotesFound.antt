@@ -1,7 +1,7 @@
 -- The first of some notes that differs comes after those that are the same.
 use Rattle.std.proofs.Common.{◌≡◌, ℕ, ◌+◌, ◌-◌, ◌≤◌, ◌<◌, Bool, false, true, cond, List, [], ◌∷◌, drop, find, get_or, length, take, Option, Some, None, sym, ap, ap₂, ◌∙◌, arith}
 use Rattle.std.proofs.lemmas.List.{get_or_default, take_all}
-use Rattle.hand_records.specs.declared.notes.NoteName.{NoteName}
+use Rattle.hand_canon.specs.declared.notes.NoteName.{NoteName}
 use Rattle.hand_differences.specs.SameParts.{is_same_text}
 
 -- a note that is the same is passed over

@@ -11,15 +11,15 @@ use Rattle.chip_ledger.specs.LiveRow.{flag_of}
 use Rattle.chip_ledger.specs.Seat.{seats_of}
 use Rattle.chip_ledger.specs.declared.live_row.LiveRow.{LiveRow}
 use Rattle.hand_canon.specs.Sound.{IsSound}
-use Rattle.hand_records.proofs.NoteLaws.{notes_same}
-use Rattle.hand_records.proofs.NoteTexts.{texts_same}
-use Rattle.hand_records.specs.NoteTable.{note_names, text_named}
-use Rattle.hand_records.specs.SaidNotes.{SaidNotes, notes_of}
-use Rattle.hand_records.specs.SameHands.{AreSameHand}
-use Rattle.hand_records.specs.declared.notes.NoteName.{NoteName}
-use Rattle.hand_records.specs.declared.notes.NoteName.TheVariants as names
-use Rattle.hand_records.specs.declared.trace.Play.{Play}
-use Rattle.hand_records.specs.declared.trace.Trace.{Trace}
+use Rattle.hand_canon.proofs.NoteLaws.{notes_same}
+use Rattle.hand_canon.proofs.NoteTexts.{texts_same}
+use Rattle.hand_canon.specs.NoteTable.{note_names, text_named}
+use Rattle.hand_canon.specs.SaidNotes.{SaidNotes, notes_of}
+use Rattle.hand_canon.specs.SameHands.{AreSameHand}
+use Rattle.hand_canon.specs.declared.notes.NoteName.{NoteName}
+use Rattle.hand_canon.specs.declared.notes.NoteName.TheVariants as names
+use Rattle.hand_canon.specs.declared.trace.Play.{Play}
+use Rattle.hand_canon.specs.declared.trace.Trace.{Trace}
 use Rattle.play_event.specs.declared.setup.Setup.{Setup}
 use Rattle.hand_differences.proofs.ExactTests.{exact_bytes, exact_clocks, exact_lists, exact_moves, exact_numbers, exact_options, exact_places, exact_tests}
 use Rattle.hand_differences.proofs.FirstNumbers.{find_never, none_of_same, same_of_none}

@@ -1,7 +1,7 @@
 -- The printed text of the first difference of two plays.
 use Rattle.std.specs.Prelude.{ℕ, List, ◌++◌, codes, Option, Some, None}
 use Rattle.std.specs.Fmt.{decimal}
-use Rattle.hand_records.specs.NoteTable.{note_text}
+use Rattle.hand_canon.specs.NoteTable.{note_text}
 use Rattle.hand_differences.specs.FirstDifference as found
 use Rattle.hand_differences.specs.FirstDifference.{PlainDifference}
 

@@ -6,11 +6,11 @@ use Rattle.chip_ledger.specs.LiveRow.{flag_of}
 use Rattle.chip_ledger.specs.Seat.{seats_of}
 use Rattle.chip_ledger.specs.SeatRow.{amounts_in}
 use Rattle.chip_ledger.specs.declared.live_row.LiveRow.{LiveRow}
-use Rattle.hand_records.specs.NoteTable.{note_names, text_named}
-use Rattle.hand_records.specs.SaidNotes.{SaidNotes, notes_of}
-use Rattle.hand_records.specs.declared.notes.NoteName.{NoteName}
-use Rattle.hand_records.specs.declared.notes.NoteName.TheVariants as names
-use Rattle.hand_records.specs.declared.trace.Play.{Play}
+use Rattle.hand_canon.specs.NoteTable.{note_names, text_named}
+use Rattle.hand_canon.specs.SaidNotes.{SaidNotes, notes_of}
+use Rattle.hand_canon.specs.declared.notes.NoteName.{NoteName}
+use Rattle.hand_canon.specs.declared.notes.NoteName.TheVariants as names
+use Rattle.hand_canon.specs.declared.trace.Play.{Play}
 use Rattle.play_event.specs.Code.{code_text}
 use Rattle.play_event.specs.declared.played.Move as moves
 use Rattle.play_event.specs.declared.played.Place as places

@@ -3,7 +3,7 @@ use Rattle.std.specs.Prelude.{ℕ, Bool, true, false, not, ◌&&◌, ◌==◌, L
 use Rattle.card_set.specs.Deck.{is_same_card}
 use Rattle.card_set.specs.declared.card.Slot.{Slot}
 use Rattle.card_set.specs.declared.card.Slot.TheVariants as slots
-use Rattle.hand_records.specs.declared.notes.Clock.{Clock}
+use Rattle.hand_canon.specs.declared.notes.Clock.{Clock}
 use Rattle.play_event.specs.Places.{is_same_owner}
 use Rattle.play_event.specs.declared.played.Act.{Act}
 use Rattle.play_event.specs.declared.played.Act.TheVariants as acts

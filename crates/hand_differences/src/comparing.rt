@@ -8,7 +8,7 @@ use crate::difference::Difference;
 use crate::lists::{card_difference, move_difference, shown_difference};
 use crate::notes::note_difference;
 use crate::setups::setup_difference;
-use hand_records::Play;
+use hand_canon::Play;
 
 /// The first difference of two plays, each at this place of its file, from 0; `None` if they are
 /// the same hand. Notes are compared only if `notes` is set; a note that equals its default counts

@@ -1,6 +1,6 @@
 //! The first difference of two plays.
 use chip_ledger::Seat;
-use hand_records::NoteName;
+use hand_canon::NoteName;
 
 /// The first difference of two plays, in the order in which differences are looked for.
 #[derive(Clone, Copy, Debug, PartialEq, Eq)]

@@ -5,8 +5,8 @@ ghost use Rattle.hand_canon.specs.Sound.{IsSound};
 ghost use Rattle.hand_differences.specs.FirstDifference.{first_difference};
 ghost use Rattle.hand_differences.specs.FirstNumbers.{DifferFirstAt, first_other_number};
 ghost use Rattle.hand_differences.specs.SameParts.{is_same_move, is_same_place};
-ghost use Rattle.hand_records.specs.SameHands.{AreSameHand};
-ghost use Rattle.hand_records.specs.declared.trace.Play.{Play};
+ghost use Rattle.hand_canon.specs.SameHands.{AreSameHand};
+ghost use Rattle.hand_canon.specs.declared.trace.Play.{Play};
 ghost use Rattle.play_event.specs.declared.played.Move.{Move};
 ghost use Rattle.play_event.specs.declared.played.Place.{Place};
 

@@ -2,8 +2,8 @@
 ghost use Rattle.std.specs.Prelude.{◌≡◌, ◌≤◌, IfSome, bytes_eq, decimal, find, map, not, option_map};
 ghost use Rattle.std.proofs.Props.{props};
 ghost use Rattle.chip_ledger.specs.Seat.{seats_of};
-ghost use Rattle.hand_records.specs.AllowedNotes.{AreSeatNumbers};
-ghost use Rattle.hand_records.specs.SaidNotes.{hand_name_noted, name_said, numbers_said, said_notes};
+ghost use Rattle.hand_canon.specs.AllowedNotes.{AreSeatNumbers};
+ghost use Rattle.hand_canon.specs.SaidNotes.{hand_name_noted, name_said, numbers_said, said_notes};
 ghost use Rattle.hand_differences.specs.BothAllowed.{AreBothAllowed};
 ghost use Rattle.hand_differences.specs.FirstDifference.{difference_said};
 ghost use Rattle.hand_differences.specs.FirstDifference as differences;
@@ -12,7 +12,7 @@ ghost use Rattle.hand_differences.specs.SameParts as same_parts;
 
 use crate::difference::Difference;
 use first_fault::Text;
-use hand_records::{Clock, NoteName, Notes};
+use hand_canon::{Clock, NoteName, Notes};
 
 // The first note that differs in two hands of `count` seats, each at this place of its file.
 pub(crate) fn note_difference(

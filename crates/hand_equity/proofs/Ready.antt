@@ -12,8 +12,8 @@ use Rattle.play_event.specs.CanonScript.{dealt_slots, held_slots}
 use Rattle.play_event.specs.TraceCore.{TraceCore}
 use Rattle.chip_ledger.specs.Seat.{IsSeatOf}
 use Rattle.hand_canon.specs.Sound.{IsSound}
-use Rattle.hand_records.specs.SoundRecord.{script_said}
-use Rattle.hand_records.specs.declared.trace.Play.{Play}
+use Rattle.hand_canon.specs.SoundRecord.{script_said}
+use Rattle.hand_canon.specs.declared.trace.Play.{Play}
 use Rattle.card_set.proofs.NumbersOfRange.{find_none}
 use Rattle.play_event.specs.declared.setup.Setup.{Setup}
 use Rattle.play_event.specs.Games.{game_of}

@@ -8,8 +8,8 @@ use Rattle.card_set.specs.Known.{is_unknown, known_cards}
 use Rattle.chip_ledger.specs.Seat.{seats_of}
 use Rattle.play_event.specs.CanonScript.{dealt_slots, held_slots}
 use Rattle.hand_canon.specs.RowTests.{is_fold_before}
-use Rattle.hand_records.specs.declared.trace.Trace.{Trace}
-use Rattle.hand_records.specs.TraceRows.{place_said}
+use Rattle.hand_canon.specs.declared.trace.Trace.{Trace}
+use Rattle.hand_canon.specs.TraceRows.{place_said}
 use Rattle.play_event.specs.Trace.{TracedPlace}
 use Rattle.hand_equity.specs.declared.refusal.NoEquity.{NoEquity}
 use Rattle.hand_equity.specs.declared.refusal.NoEquity.TheVariants as refusals

@@ -2,7 +2,7 @@
 use Rattle.std.specs.Prelude.{ℕ, Bool, List, [], ◌∷◌, ◌++◌, filter, codes, if◌then◌else◌}
 use Rattle.std.specs.Fmt.{decimal}
 use Rattle.chip_ledger.specs.Seat.{seats_of}
-use Rattle.hand_records.specs.declared.trace.Trace.{Trace}
+use Rattle.hand_canon.specs.declared.trace.Trace.{Trace}
 use Rattle.play_event.specs.Games.{game_of}
 use Rattle.hand_equity.specs.declared.row.EquityRow.{EquityRow}
 use Rattle.hand_equity.specs.Street.{is_live_on}

@@ -6,7 +6,7 @@ ghost use Rattle.card_set.specs.Row.{cards_of};
 ghost use Rattle.chip_ledger.specs.LiveRow.{flag_of};
 ghost use Rattle.play_event.specs.CanonScript.{dealt_slots};
 ghost use Rattle.hand_canon.specs.RowTests.{is_fold_before};
-ghost use Rattle.hand_records.specs.TraceRows.{place_said};
+ghost use Rattle.hand_canon.specs.TraceRows.{place_said};
 ghost use Rattle.hand_equity.specs.Street.{board_slots};
 
 use card_set::{CardRow, SlotRow};

@@ -1,11 +1,11 @@
 -- Whether a play can be written, from what is written of it.
 use Rattle.std.proofs.Common.{◌≡◌, ◌⊎◌, ℕ, Option, Some, None, refl, sym, ap, subst, ◌∙◌, inl, inr}
-use Rattle.hand_records.specs.declared.writing.Unspelled.{Unspelled}
-use Rattle.hand_records.specs.declared.writing.WriteRefusal.{WriteRefusal}
-use Rattle.hand_records.specs.declared.writing.WriteRefusal.TheVariants as refusals
+use Rattle.hand_canon.specs.declared.writing.Unspelled.{Unspelled}
+use Rattle.hand_canon.specs.declared.writing.WriteRefusal.{WriteRefusal}
+use Rattle.hand_canon.specs.declared.writing.WriteRefusal.TheVariants as refusals
 use Rattle.hand_gen.specs.declared.summary.SpelledSize.{SpelledSize}
 use Rattle.hand_gen.specs.Load.{IsSpelled, bytes_spelled, hands_spelled}
-use Rattle.hand_records.specs.WriteRefusals.{IsOutOfMemory, refused_at}
+use Rattle.hand_canon.specs.WriteRefusals.{IsOutOfMemory, refused_at}
 
 -- a hand that is not refused has no fact that cannot be expressed
 none_refused : (fact : Option Unspelled) → refused_at 1 fact None ≡ None → fact ≡ None

@@ -4,8 +4,8 @@ use Rattle.std.proofs.lemmas.List.{length-map, map-append}
 use Rattle.std.proofs.lemmas.List.Elements.{All-push}
 use Rattle.std.proofs.lemmas.List.Sums.{sum_by_push}
 use Rattle.hand_canon.specs.Sound.{IsSound}
-use Rattle.hand_records.specs.declared.record.Record.{Record}
-use Rattle.hand_records.specs.declared.trace.Play.{Play}
+use Rattle.hand_canon.specs.declared.record.Record.{Record}
+use Rattle.hand_canon.specs.declared.trace.Play.{Play}
 use Rattle.hand_gen.specs.declared.summary.PlayCounts.{PlayCounts}
 use Rattle.hand_gen.specs.declared.summary.Summary.{Summary}
 use Rattle.hand_gen.specs.Load.{AreCountsOf, IsLoadTo, IsSummaryOf}
@@ -13,7 +13,7 @@ use Rattle.hand_gen.specs.Loaded.{IsWithCounts}
 use Rattle.hand_gen.specs.Made.{AreMadeFrom, IsMade, number_behind, number_behind_all}
 use Rattle.hand_gen.proofs.MadeLaws.{number_more, one_hand_more}
 use Rattle.card_set.proofs.Entries.{zip_push}
-use Rattle.hand_records.specs.Plays.{hands_of}
+use Rattle.hand_canon.specs.Plays.{hands_of}
 
 -- one more summand
 one_sum : (f : PlayCounts → ℕ) (counts : List PlayCounts) (more : PlayCounts) (before after : ℕ) → before ≡ sum_by f counts → after ≡ before + f more → after ≡ sum_by f (counts ++ more ∷ [])

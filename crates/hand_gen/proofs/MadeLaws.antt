@@ -16,7 +16,7 @@ use Rattle.play_event.specs.Openers.{InTurn, NoSeat, TheSeat, Undecided}
 use Rattle.play_event.specs.Past.{Move, Past, moves_of}
 use Rattle.play_event.specs.Said.{Said, said_of}
 use Rattle.play_event.specs.Scripts.{past_of, with_event}
-use Rattle.hand_records.specs.declared.record.Record.{Record}
+use Rattle.hand_canon.specs.declared.record.Record.{Record}
 use Rattle.card_set.proofs.Ranges.{range_more}
 use Rattle.replay_core.specs.Together.{StandTogether}
 use Rattle.deal_core.specs.NextDeal.{first_owed}

@@ -3,17 +3,17 @@ use Rattle.std.proofs.Common.{◌≡◌, ℕ, ◌-◌, ◌≤◌, List, ◌++◌
 use Rattle.card_set.specs.declared.card.Card.{Card}
 use Rattle.chip_ledger.specs.declared.seat_row.TheConstants.{MOST_AMOUNT}
 use Rattle.chip_ledger.specs.Fillers.{index-replicate}
-use Rattle.hand_records.specs.AllowedNotes.{AreNoNotes, AreAllowed}
-use Rattle.hand_records.specs.NoteTable.{texts_of}
-use Rattle.hand_records.specs.SoundRecord.{IsStatedFor}
-use Rattle.hand_records.proofs.NoteTexts as note_texts
-use Rattle.hand_records.specs.declared.notes.Notes.{Notes}
-use Rattle.hand_records.specs.declared.record.Stated.{Stated}
-use Rattle.hand_records.specs.declared.trace.Play.{Play}
-use Rattle.hand_records.specs.declared.trace.Trace.{Trace}
+use Rattle.hand_canon.specs.AllowedNotes.{AreNoNotes, AreAllowed}
+use Rattle.hand_canon.specs.NoteTable.{texts_of}
+use Rattle.hand_canon.specs.SoundRecord.{IsStatedFor}
+use Rattle.hand_canon.proofs.NoteTexts as note_texts
+use Rattle.hand_canon.specs.declared.notes.Notes.{Notes}
+use Rattle.hand_canon.specs.declared.record.Stated.{Stated}
+use Rattle.hand_canon.specs.declared.trace.Play.{Play}
+use Rattle.hand_canon.specs.declared.trace.Trace.{Trace}
 use Rattle.hand_canon.specs.Agreement.{finish_compared, first_difference, is_different, seats_compared, total_compared, value_compared, win_compared}
 use Rattle.hand_canon.specs.Sound.{IsSound}
-use Rattle.hand_records.specs.StatedFacts.{IsNothingStated}
+use Rattle.hand_canon.specs.StatedFacts.{IsNothingStated}
 use Rattle.hand_gen.specs.Sound.{IsSoundHand}
 use Rattle.hand_gen.specs.HandSource.{HandSource}
 use Rattle.card_set.proofs.Options.{for_none, if_none}

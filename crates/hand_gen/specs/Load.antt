@@ -5,23 +5,23 @@ use Rattle.std.specs.Fmt.{decimal}
 use Rattle.std.specs.List.{AllZip}
 use Rattle.acpc_game.specs.declared.game.Game.{Game}
 use Rattle.acpc_game.specs.GameView.{game_in}
-use Rattle.acpc_writing.specs.GameOf.{game_of}
-use Rattle.acpc_writing.specs.Line.{log_text}
-use Rattle.acpc_writing.specs.Spelled as logs
+use Rattle.acpc_format.specs.GameOf.{game_of}
+use Rattle.acpc_format.specs.Line.{log_text}
+use Rattle.acpc_format.specs.Spelled as logs
 use Rattle.hand_canon.specs.Agreement.{pot_total_of}
 use Rattle.hand_canon.specs.Sound.{IsSound}
-use Rattle.hand_records.specs.declared.trace.Play.{Play}
-use Rattle.hand_records.specs.declared.writing.Keep.TheVariants as keeps
-use Rattle.hand_records.specs.declared.writing.Unspelled.{Unspelled}
+use Rattle.hand_canon.specs.declared.trace.Play.{Play}
+use Rattle.hand_canon.specs.declared.writing.Keep.TheVariants as keeps
+use Rattle.hand_canon.specs.declared.writing.Unspelled.{Unspelled}
 use Rattle.ohh_writing.specs.Lines.{lines}
 use Rattle.ohh_writing.specs.Spelled as ohh
 use Rattle.ohh_members.specs.declared.dialect.Dialect.TheVariants as dialects
-use Rattle.phh_writing.specs.Spelled as phh
+use Rattle.phh_format.specs.Spelled as phh
 use Rattle.hand_gen.specs.declared.summary.PlayCounts.{PlayCounts}
 use Rattle.hand_gen.specs.declared.summary.SpelledSize.{SpelledSize}
 use Rattle.hand_gen.specs.declared.summary.Summary.{Summary}
 use Rattle.hand_gen.specs.Made.{AreMadeFrom, number_behind_all}
-use Rattle.hand_records.specs.Plays.{hands_of}
+use Rattle.hand_canon.specs.Plays.{hands_of}
 
 -- 1 for a hand that a format can express, and otherwise 0
 abbrev pub hands_spelled : Option Unspelled → ℕ

@@ -7,9 +7,9 @@ use Rattle.play_event.specs.declared.setup.Setup.{Setup}
 use Rattle.play_event.specs.HistoryRules.{history_rules}
 use Rattle.play_event.specs.Said.{Said, said_of}
 use Rattle.play_event.specs.Scripts.{past_of}
-use Rattle.hand_records.specs.AllowedNotes.{AreNoNotes}
-use Rattle.hand_records.specs.declared.record.Record.{Record}
-use Rattle.hand_records.specs.StatedFacts.{IsNothingStated}
+use Rattle.hand_canon.specs.AllowedNotes.{AreNoNotes}
+use Rattle.hand_canon.specs.declared.record.Record.{Record}
+use Rattle.hand_canon.specs.StatedFacts.{IsNothingStated}
 use Rattle.hand_gen.specs.Coming.{coming}
 use Rattle.hand_gen.specs.Setups.{IsMadeSetup, number_behind_setup}
 use Rattle.hand_gen.specs.HandSource.{HandSource, full_deck}

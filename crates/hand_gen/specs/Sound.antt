@@ -1,8 +1,8 @@
 -- What a made hand is besides being made: sound and legal.
 use Rattle.std.specs.Prelude.{◌≡◌, None}
-use Rattle.hand_records.specs.declared.record.Record.{Record}
-use Rattle.hand_records.specs.declared.trace.Trace.{Trace}
-use Rattle.hand_records.specs.SoundRecord.{IsSoundRecord, script_said}
+use Rattle.hand_canon.specs.declared.record.Record.{Record}
+use Rattle.hand_canon.specs.declared.trace.Trace.{Trace}
+use Rattle.hand_canon.specs.SoundRecord.{IsSoundRecord, script_said}
 use Rattle.hand_canon.specs.Agreement.{first_difference}
 use Rattle.hand_canon.specs.LegalHand.{IsLegalHand}
 

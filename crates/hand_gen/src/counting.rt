@@ -2,18 +2,17 @@
 ghost use Rattle.std.specs.Prelude.{◌≡◌, ◌≤◌, ◌∷◌, [], Ok, IfOk, length};
 ghost use Rattle.std.specs.List.{AllByRecursion};
 ghost use Rattle.acpc_game.specs.GameView.{game_in};
-ghost use Rattle.acpc_writing.specs.GameOf as games;
+ghost use Rattle.acpc_format.specs.GameOf as games;
 ghost use Rattle.hand_canon.specs.Sound.{IsSound};
-ghost use Rattle.hand_records.specs.declared.trace.Play.{Play as PlayNow};
-ghost use Rattle.phh_writing.specs.Spelled as phh;
+ghost use Rattle.hand_canon.specs.declared.trace.Play.{Play as PlayNow};
+ghost use Rattle.phh_format.specs.Spelled as phh;
 ghost use Rattle.hand_gen.specs.Load.{AreCountsOf, IsInHistories, IsInLogs, hands_spelled};
 
 use crate::summary::{PlayCounts, SpelledSize};
+use acpc_format::game_of;
 use acpc_game::Game;
-use acpc_writing::game_of;
 use card_set::Memory;
-use hand_canon::pot_total;
-use hand_records::{Keep, Play, WriteRefusal};
+use hand_canon::{Keep, Play, WriteRefusal, pot_total};
 use ohh_members::Dialect;
 use std::alloc::Global;
 
@@ -73,7 +72,7 @@ fn in_logs_of(alloc: Global, game: &Game, file: &[Play]) -> Result<SpelledSize, 
     ensures { (play : PlayNow) → file.now ≡ play ∷ []
         → games.game_of play.trace.setup ≡ Ok (game_in game.now) → IfOk result (IsInLogs play) }
 {
-    match acpc_writing::write(alloc, game, file, Keep::All) {
+    match acpc_format::write(alloc, game, file, Keep::All) {
         Ok(bytes) => Ok(spelled_in(bytes.len())),
         Err(WriteRefusal::Memory(memory)) => Err(memory),
         Err(WriteRefusal::Unspelled { hand: _, fact: _ }) => Ok(not_spelled()),
@@ -104,7 +103,7 @@ fn in_tables(play: &Play) -> u128
     ensures hands { result ≡ hands_spelled (phh.unspelled play.now) }
     ensures one { result ≤ 1 }
 {
-    match phh_writing::spells(play, Keep::All) {
+    match phh_format::spells(play, Keep::All) {
         Some(_) => 0,
         None => 1,
     }

@@ -16,7 +16,7 @@ use crate::hand::{history_rules, script_of};
 use crate::hand_source::HandSource;
 use crate::setups::{number_behind_setup, setup_at};
 use card_set::Memory;
-use hand_records::{Notes, Play, Record, Records, Stated};
+use hand_canon::{Notes, Play, Record, Records, Stated};
 use play_event::{Script, Setup};
 use replay_core::{ReplayFault, replay};
 use std::alloc::Global;

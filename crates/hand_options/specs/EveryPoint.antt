@@ -1,7 +1,7 @@
 -- The texts of the options at the points of a hand, one after the other.
 use Rattle.std.specs.Prelude.{◌≡◌, ℕ, ◌+◌, List, [], ◌++◌}
-use Rattle.hand_records.specs.SoundRecord.{script_said}
-use Rattle.hand_records.specs.declared.record.Record.{Record}
+use Rattle.hand_canon.specs.SoundRecord.{script_said}
+use Rattle.hand_canon.specs.declared.record.Record.{Record}
 use Rattle.play_event.specs.Scripts.{past_after}
 use Rattle.hand_options.specs.declared.choices.Options.{Options}
 use Rattle.hand_options.specs.Legal.{AreOptions}

@@ -3,7 +3,7 @@ ghost use Rattle.std.specs.Prelude.{◌≡◌, ◌≤◌, true, length, is_some,
 ghost use Rattle.hand_canon.specs.Sound.{IsSound};
 ghost use Rattle.hand_options.specs.Legal.{AreOptions, IsUndecided};
 ghost use Rattle.hand_options.specs.Printed.{HasTargets};
-ghost use Rattle.hand_records.specs.SoundRecord.{script_said};
+ghost use Rattle.hand_canon.specs.SoundRecord.{script_said};
 ghost use Rattle.play_event.specs.Scripts.{past_after};
 ghost use Rattle.play_event.specs.TurnTargets.{is_bet_due};
 ghost use Rattle.play_event.specs.ValidSetup.{IsValid};
@@ -12,7 +12,7 @@ ghost use Rattle.replay_core.specs.LegalPart.{AreLegalBefore};
 use crate::choices::Options;
 use crate::now::options_now;
 use crate::playing::play_first;
-use hand_records::{Play, Record};
+use hand_canon::{Play, Record};
 use replay_core::HandInPlay;
 use variant_table::{Variant, by_code};
 

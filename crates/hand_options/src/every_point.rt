@@ -1,13 +1,13 @@
 //! The options at every point of a hand, from before its first event on.
 ghost use Rattle.std.specs.Prelude.{◌≤◌, ◌+◌, length, OnOk, string_bytes};
 ghost use Rattle.hand_options.specs.EveryPoint.{HasOptionTexts};
-ghost use Rattle.hand_records.specs.SoundRecord.{IsSoundRecord, script_said};
+ghost use Rattle.hand_canon.specs.SoundRecord.{IsSoundRecord, script_said};
 ghost use Rattle.replay_core.specs.LegalPart.{AreLegalBefore};
 
 use crate::asking::options_at;
 use crate::printing::push_options;
 use card_set::Memory;
-use hand_records::Record;
+use hand_canon::Record;
 use std::alloc::Global;
 
 /// Appends the options of the hand with this number before its first event, after one event, and so

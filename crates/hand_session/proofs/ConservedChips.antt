@@ -3,7 +3,7 @@ use Rattle.std.proofs.Common.{List, reverse, sym, ap, ◌∙◌}
 use Rattle.play_event.specs.TraceCore.{core_of}
 use Rattle.hand_canon.specs.LegalHand.{IsLegalHand, showdown_in}
 use Rattle.hand_canon.specs.WholeTrace.{IsTraceOf}
-use Rattle.hand_records.specs.declared.trace.Trace.{Trace}
+use Rattle.hand_canon.specs.declared.trace.Trace.{Trace}
 use Rattle.play_event.specs.declared.setup.Rules.{Rules}
 use Rattle.play_event.specs.declared.setup.Setup.{Setup}
 use Rattle.play_event.specs.Due.{is_unfinished, turn}

@@ -7,14 +7,14 @@ use Rattle.std.proofs.lemmas.List.{append-nil}
 use Rattle.std.proofs.lemmas.List.Concat.{flat_map-append}
 use Rattle.std.proofs.lemmas.List.Sums.{fold-append}
 use Rattle.card_set.proofs.Bytes.{same_bytes}
-use Rattle.report_layout.specs.Names.{with_name}
-use Rattle.report_layout.proofs.Placed.{with_known, with_new}
+use Rattle.printed_hands.specs.Names.{with_name}
+use Rattle.printed_hands.proofs.Placed.{with_known, with_new}
 use Rattle.hand_session.specs.declared.player_sessions.PlayerSession.{PlayerSession}
 use Rattle.hand_session.specs.declared.visits.Visit.{Visit}
 use Rattle.hand_session.specs.Hands.{Hand, Seated}
 use Rattle.hand_session.specs.Sessions.{is_named, names_among}
 use Rattle.hand_session.specs.Visits.{after_seat, session_at, session_names, steps_of_names, steps_of_seat, visit_in, visit_seat, visit_steps, with_names, with_visit}
-use Rattle.report_layout.proofs.Distinct.{AreDistinct, bytes_flip}
+use Rattle.printed_hands.proofs.Distinct.{AreDistinct, bytes_flip}
 use Rattle.hand_session.proofs.SeatNames.{any_names, names_more}
 use Rattle.hand_session.proofs.RowPlaces.{names_after}
 

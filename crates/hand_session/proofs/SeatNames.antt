@@ -4,8 +4,8 @@ use Rattle.std.specs.List.{list_any}
 use Rattle.std.proofs.lemmas.List.{map-append}
 use Rattle.std.proofs.lemmas.List.Sums.{fold-append}
 use Rattle.card_set.proofs.Any.{list_any-map}
-use Rattle.report_layout.specs.Names.{with_name}
-use Rattle.report_layout.proofs.Distinct.{AreDistinct, any_fold, distinct_fold, fold_once}
+use Rattle.printed_hands.specs.Names.{with_name}
+use Rattle.printed_hands.proofs.Distinct.{AreDistinct, any_fold, distinct_fold, fold_once}
 use Rattle.hand_session.specs.Hands.{Hand, Seated}
 use Rattle.hand_session.specs.Sessions.{all_seated, is_named, names_among, names_of}
 

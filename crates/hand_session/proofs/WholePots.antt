@@ -14,7 +14,7 @@ use Rattle.chip_ledger.specs.SeatRow.{amount_of}
 use Rattle.play_event.specs.TraceCore.{core_of}
 use Rattle.hand_canon.specs.LegalHand.{IsShareable, showdown_in}
 use Rattle.hand_canon.specs.WholeTrace.{IsTraceOf}
-use Rattle.hand_records.specs.declared.trace.Trace.{Trace}
+use Rattle.hand_canon.specs.declared.trace.Trace.{Trace}
 use Rattle.play_event.specs.declared.code.Code.{Code}
 use Rattle.play_event.specs.declared.setup.Setup.{Setup}
 use Rattle.play_event.specs.Past.{Past}

@@ -1,7 +1,7 @@
 -- What a ledger of rows and steps needs before one more hand, and what it has after it.
 use Rattle.std.specs.Prelude.{◌≡◌, ◌≤◌, ◌++◌, ℕ, List}
 use Rattle.first_fault.specs.declared.limits.TheConstants.{MOST_HANDS}
-use Rattle.report_layout.specs.Indexed.{AreIndexed}
+use Rattle.printed_hands.specs.Indexed.{AreIndexed}
 use Rattle.hand_session.specs.declared.ledger.Ledger.{Ledger}
 use Rattle.hand_session.specs.declared.player_sessions.PlayerSession.{PlayerSession}
 use Rattle.hand_session.specs.declared.steps.Step.{Step}

@@ -1,11 +1,11 @@
 -- A session of the hands so far.
 use Rattle.std.specs.Prelude.{◌≡◌, ◌≤◌, ◌*◌, ℕ, List, [], length, map, sum_by}
-use Rattle.hand_records.specs.declared.trace.Play.{Play}
+use Rattle.hand_canon.specs.declared.trace.Play.{Play}
 use Rattle.hand_session.specs.declared.sessions.OpenSession.{OpenSession}
 use Rattle.hand_session.specs.Hands.{hand_of}
 use Rattle.hand_session.specs.Sessions.{names_of, session_of_name, steps_after}
 use Rattle.hand_session.specs.Visits.{IsOfHands, MOST_OF_HAND, session_at, session_names}
-use Rattle.report_layout.specs.Indexed.{AreIndexed}
+use Rattle.printed_hands.specs.Indexed.{AreIndexed}
 
 -- an open session has the rows, the steps and the rakes of these plays, each row found by its name
 pub record IsSessionSoFar (session : OpenSession) (plays : List Play) : Type 0 where

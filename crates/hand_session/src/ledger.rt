@@ -2,20 +2,20 @@
 ghost use Rattle.std.specs.Prelude.{◌≡◌, ◌-◌, ◌+◌, ℕ, List, false, [], bytes_eq, map, Some, IfOk, OnOk};
 ghost use Rattle.std.specs.List.{list_any, position_from};
 ghost use Rattle.chip_ledger.specs.Seat.{seats_of};
-ghost use Rattle.report_layout.specs.Indexed.{AreIndexed};
+ghost use Rattle.printed_hands.specs.Indexed.{AreIndexed};
 ghost use Rattle.hand_session.specs.Hands.{hand_of, seated_in};
 ghost use Rattle.hand_session.specs.Ledgers.{HasGrown, TakesHand};
 ghost use Rattle.hand_session.specs.Sessions.{is_named, names_among};
 ghost use Rattle.hand_session.specs.Visits.{IsOfHand, IsOfHands, after_seat, session_at, session_names, sessions_with, steps_of_names, steps_of_seat, visit_seat, visit_steps, with_names};
 
-use crate::rows::{add_visit, new_session, push_steps};
 use crate::player_sessions::PlayerSession;
+use crate::rows::{add_visit, new_session, push_steps};
 use crate::steps::Step;
 use crate::visits::{Visit, visit_of};
 use card_set::{Memory, TryPush};
 use chip_ledger::Seat;
-use hand_records::{Play, name_of};
-use report_layout::NameIndex;
+use hand_canon::{Play, name_of};
+use printed_hands::NameIndex;
 use std::alloc::Global;
 
 /// The rows of names in the order in which they are first seen, an index of these names, and the

@@ -5,7 +5,7 @@ use Rattle.std.specs.List.{list_any}
 use Rattle.std.proofs.lemmas.Bool.{and_parts, cases_lt, eqb-true, ltb-false}
 use Rattle.std.proofs.lemmas.Bool.Decides.{nat_tests}
 use Rattle.std.proofs.lemmas.List.{length-take-le}
-use Rattle.hand_records.specs.AllowedNotes.{AreSeatNumbers, IsWithin}
+use Rattle.hand_canon.specs.AllowedNotes.{AreSeatNumbers, IsWithin}
 use Rattle.ohh_writing.specs.Seating.{fall, falls, first_or, has_no_repeat, is_circular, number_among}
 use Rattle.card_set.proofs.Any.{not_among}
 use Rattle.card_set.proofs.Entries.{any_default, past_default, zero_taken_at}

@@ -11,8 +11,8 @@ use Rattle.play_event.specs.Past.{Act, BroughtIn, Called, Folded, Move, Raised}
 use Rattle.play_event.specs.Seats.{all_seats}
 use Rattle.play_event.specs.Trace.{TracedMove, TracedPlace}
 use Rattle.play_event.specs.CanonScript.{dealt_slots, held_slots, plain_move}
-use Rattle.hand_records.specs.TraceRows.{core_said}
-use Rattle.hand_records.specs.declared.trace.Trace.{Trace}
+use Rattle.hand_canon.specs.TraceRows.{core_said}
+use Rattle.hand_canon.specs.declared.trace.Trace.{Trace}
 use Rattle.ohh_members.specs.declared.dialect.Dialect.{Dialect}
 use Rattle.ohh_members.specs.declared.words.Word.{Word}
 use Rattle.ohh_members.specs.declared.words.Word.TheVariants as words

@@ -6,7 +6,7 @@ use Rattle.std.proofs.lemmas.List.Sums.{sum_by-cons}
 use Rattle.std.proofs.lemmas.Str.{is_utf8-from_IsUtf8}
 use Rattle.first_fault.specs.Reading.{◌>>=◌, thread_from}
 use Rattle.first_fault.specs.declared.limits.TheConstants.{MOST_FILE_MOVES, MOST_HANDS}
-use Rattle.hand_records.specs.declared.trace.Play.{Play}
+use Rattle.hand_canon.specs.declared.trace.Play.{Play}
 use Rattle.ohh_members.specs.declared.dialect.Dialect.{Dialect}
 use Rattle.ohh_writing.specs.Lines.{AreRead, IsTextOf, Spells, hand_text}
 use Rattle.ohh_writing.specs.Tree.{hand_tree}
@@ -17,8 +17,8 @@ use Rattle.ohh_rounds.specs.Steps.{moves_in}
 use Rattle.ohh_format.specs.Again.{hand_again, hands_again}
 use Rattle.ohh_format.proofs.BlocksAgain.{blocks_again, texts}
 use Rattle.ohh_format.proofs.HandAgain.{IsReadable, counted, hand_read, hand_steps}
-use Rattle.hand_records.specs.Plays.{moves_written}
-use Rattle.hand_records.specs.PlainHands.{PlainHand}
+use Rattle.hand_canon.specs.Plays.{moves_written}
+use Rattle.hand_canon.specs.PlainHands.{PlainHand}
 
 -- the text of a hand reads as its tree
 text_again : (dialect : Dialect) (place : ℕ) (play : Play) → IsTextOf dialect place play → tree_of (hand_text dialect place play) ≡ Some (hand_tree dialect place play)

@@ -7,7 +7,7 @@ use Rattle.chip_ledger.specs.Greatest.{greatest}
 use Rattle.chip_ledger.specs.SeatRow.{amount_of, amounts_in}
 use Rattle.chip_ledger.specs.declared.numbers.TheConstants.{MOST_CHIPS}
 use Rattle.chip_ledger.specs.declared.seat_row.SeatRow.{SeatRow}
-use Rattle.hand_records.specs.declared.notes.Notes.{Notes}
+use Rattle.hand_canon.specs.declared.notes.Notes.{Notes}
 use Rattle.play_event.specs.declared.code.Code.{Code}
 use Rattle.play_event.specs.declared.code.Code.TheVariants as games
 use Rattle.play_event.specs.Seats.{all_seats}

@@ -8,11 +8,11 @@ use Rattle.serde_json.specs.Data.{Data, object, string}
 use Rattle.chip_ledger.specs.Seat.{seats_of}
 use Rattle.play_event.specs.CanonScript.{plain_moves, showdown_said}
 use Rattle.first_fault.specs.declared.limits.TheConstants.{MOST_FILE_MOVES, MOST_HANDS}
-use Rattle.hand_records.specs.AllowedNotes.{AreAllowed, AreSeatNumbers}
-use Rattle.hand_records.specs.TraceRows.{core_said}
-use Rattle.hand_records.specs.declared.notes.Notes.{Notes}
-use Rattle.hand_records.specs.declared.trace.Play.{Play}
-use Rattle.hand_records.specs.declared.trace.Trace.{Trace}
+use Rattle.hand_canon.specs.AllowedNotes.{AreAllowed, AreSeatNumbers}
+use Rattle.hand_canon.specs.TraceRows.{core_said}
+use Rattle.hand_canon.specs.declared.notes.Notes.{Notes}
+use Rattle.hand_canon.specs.declared.trace.Play.{Play}
+use Rattle.hand_canon.specs.declared.trace.Trace.{Trace}
 use Rattle.play_event.specs.Games.{game_of}
 use Rattle.play_event.specs.Seats.{all_seats}
 use Rattle.play_event.specs.ValidSetup.{IsValid}
@@ -22,7 +22,7 @@ use Rattle.ohh_members.specs.declared.fault.Path.TheVariants as paths
 use Rattle.ohh_members.specs.Header.{PlainFront, front_said}
 use Rattle.ohh_members.specs.Players.{PlainPlayer, seated_said}
 use Rattle.ohh_members.specs.Values.{field, list_said, required}
-use Rattle.hand_records.specs.declared.notes.Moment.{Moment}
+use Rattle.hand_canon.specs.declared.notes.Moment.{Moment}
 use Rattle.ohh_writing.specs.Moment.{moment_of}
 use Rattle.ohh_writing.specs.Rounds.{hand_rounds}
 use Rattle.ohh_writing.specs.Seating.{is_circular, number_among, numbers_spelled}
@@ -48,7 +48,7 @@ use Rattle.ohh_format.proofs.ScriptAgain.{posts_read, script_read, showing_event
 use Rattle.ohh_format.proofs.SeatingAgain.{player_of, players_from, seated_read}
 use Rattle.ohh_format.proofs.WinsAgain.{ids_written}
 use Rattle.chip_ledger.specs.SeatRow.{amounts_in}
-use Rattle.hand_records.specs.Plays.{moves_written}
+use Rattle.hand_canon.specs.Plays.{moves_written}
 
 -- what the rounds of a hand are read with
 abbrev pub hand_setting : Dialect → ℕ → Setup → PlainHandContext

@@ -1,12 +1,12 @@
 -- What is read back from notes is what can be written.
 use Rattle.std.proofs.Common.{◌≡◌, ℕ, Bool, true, false, cond, bytes_eq, List, take, Option, Some, None, option_and_then, refl, sym, ap, ◌∙◌}
 use Rattle.std.specs.List.{range_with_len}
-use Rattle.hand_records.specs.declared.notes.Notes.{Notes}
+use Rattle.hand_canon.specs.declared.notes.Notes.{Notes}
 use Rattle.ohh_format.specs.Again.{notes_again}
 use Rattle.ohh_writing.specs.Seating.{is_circular, numbers_spelled}
-use Rattle.hand_records.proofs.NoteLaws.{label_twice, names_along, notes_same, numbers_again}
+use Rattle.hand_canon.proofs.NoteLaws.{label_twice, names_along, notes_same, numbers_again}
 use Rattle.ohh_format.specs.KeptNotes.{kept_in_ohh, numbers_round}
-use Rattle.hand_records.specs.SaidNotes.{KeepsNotes, SaidNotes, hand_name_noted, name_said, numbers_said, plain_notes, said_notes}
+use Rattle.hand_canon.specs.SaidNotes.{KeepsNotes, SaidNotes, hand_name_noted, name_said, numbers_said, plain_notes, said_notes}
 
 -- numbers that are written, and are noted
 numbers_kept : (count : ℕ) (said : Option (List ℕ)) → numbers_said count (numbers_spelled count said) ≡ option_and_then numbers_round (numbers_said count said)

@@ -8,10 +8,10 @@ use Rattle.std.proofs.lemmas.Grind.{pow_more}
 use Rattle.std.proofs.lemmas.List.{append-nil, length-append}
 use Rattle.std.proofs.lemmas.List.Folds.{list_all-append}
 use Rattle.first_fault.specs.Digits.{are_digits}
-use Rattle.hand_records.specs.AllowedNotes.{days_in_month}
-use Rattle.ohh_facts.specs.MomentRanges.{IsMoment}
-use Rattle.ohh_facts.specs.Moments.{clock_said, day_said, digits_in_front, digits_said, fraction_of, fraction_said, moment_in, nine_of, parts_said, zoned}
-use Rattle.hand_records.specs.declared.notes.Moment.{Moment}
+use Rattle.hand_canon.specs.AllowedNotes.{days_in_month}
+use Rattle.ohh_reading.specs.MomentRanges.{IsMoment}
+use Rattle.ohh_reading.specs.Moments.{clock_said, day_said, digits_in_front, digits_said, fraction_of, fraction_said, moment_in, nine_of, parts_said, zoned}
+use Rattle.hand_canon.specs.declared.notes.Moment.{Moment}
 use Rattle.ohh_writing.specs.Moment.{by_digits, moment_text}
 use Rattle.card_set.proofs.Digits.{digit_good, digit_is, value_more}
 use Rattle.card_set.proofs.Lists.{take_front}

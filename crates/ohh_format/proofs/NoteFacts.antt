@@ -2,27 +2,27 @@
 use Rattle.std.proofs.Common.{◌≡◌, ℕ, ◌↔◌, ◌||◌, Bool, true, false, cond, bytes_eq, codes, List, take, Option, Some, None, is_some, is_none, option_and_then, option_map, refl, sym, ap, ap₂, subst, ◌∙◌, true≢false}
 use Rattle.std.proofs.lemmas.Slice.Eq.{bytes_eq-Decides}
 use Rattle.hand_canon.specs.Sound.{IsSound}
-use Rattle.hand_records.specs.WriteRefusals.{or_behind}
-use Rattle.hand_records.specs.declared.notes.Clock.{Clock}
-use Rattle.hand_records.specs.declared.notes.NoteName.TheVariants as names
-use Rattle.hand_records.specs.declared.notes.Notes.{Notes}
-use Rattle.hand_records.specs.declared.trace.Play.{Play}
-use Rattle.hand_records.specs.declared.trace.Trace.{Trace}
-use Rattle.hand_records.specs.declared.writing.Keep.{Keep}
-use Rattle.hand_records.specs.declared.writing.Keep.TheVariants as keeps
-use Rattle.hand_records.specs.declared.writing.Unspelled.TheVariants as facts
+use Rattle.hand_canon.specs.WriteRefusals.{or_behind}
+use Rattle.hand_canon.specs.declared.notes.Clock.{Clock}
+use Rattle.hand_canon.specs.declared.notes.NoteName.TheVariants as names
+use Rattle.hand_canon.specs.declared.notes.Notes.{Notes}
+use Rattle.hand_canon.specs.declared.trace.Play.{Play}
+use Rattle.hand_canon.specs.declared.trace.Trace.{Trace}
+use Rattle.hand_canon.specs.declared.writing.Keep.{Keep}
+use Rattle.hand_canon.specs.declared.writing.Keep.TheVariants as keeps
+use Rattle.hand_canon.specs.declared.writing.Unspelled.TheVariants as facts
 use Rattle.card_set.proofs.Options.{from_none_some}
 use Rattle.ohh_format.proofs.SoundPlays.{fact_holds}
 use Rattle.ohh_writing.specs.Moment.{moment_of, moment_said}
 use Rattle.ohh_writing.specs.Seating.{is_circular, numbers_spelled}
 use Rattle.ohh_writing.specs.Spelled.{Tried, first_unspelled, has_spelled_numbers, is_spelled_date, kept_facts, note_facts, trace_facts, unspelled}
-use Rattle.hand_records.specs.declared.notes.Moment.{Moment}
-use Rattle.hand_records.proofs.NoteLaws.{AreUnusual, notes_same, unusual_said}
-use Rattle.hand_records.specs.SaidNotes.{SaidNotes, notes_of, numbers_said, said_notes}
-use Rattle.hand_records.specs.SameHands.{AreSameHand}
+use Rattle.hand_canon.specs.declared.notes.Moment.{Moment}
+use Rattle.hand_canon.proofs.NoteLaws.{AreUnusual, notes_same, unusual_said}
+use Rattle.hand_canon.specs.SaidNotes.{SaidNotes, notes_of, numbers_said, said_notes}
+use Rattle.hand_canon.specs.SameHands.{AreSameHand}
 use Rattle.ohh_format.specs.KeptNotes.{kept_in_ohh, numbers_round}
 use Rattle.hand_canon.proofs.UnusualNumbers.{unusual}
-use Rattle.hand_records.proofs.Refusals.{both_none, none_both}
+use Rattle.hand_canon.proofs.Refusals.{both_none, none_both}
 
 -- ---- notes that say the same
 

@@ -10,18 +10,18 @@ use Rattle.serde_json.specs.Data.{Data, string}
 use Rattle.chip_ledger.specs.declared.seat_row.SeatRow.{SeatRow}
 use Rattle.first_fault.specs.Reading.{read_if, or_none}
 use Rattle.first_fault.specs.declared.limits.TheConstants.{MOST_HANDS, MOST_TEXT_BYTES}
-use Rattle.hand_records.specs.AllowedNotes.{AreAllowed, IsDayOf, IsName, IsNoteText, IsSeatCount, IsTime, IsWithin, noted, non_default_seats}
-use Rattle.hand_records.specs.declared.notes.Clock.{Clock}
-use Rattle.hand_records.specs.declared.notes.Notes.{Notes}
+use Rattle.hand_canon.specs.AllowedNotes.{AreAllowed, IsDayOf, IsName, IsNoteText, IsSeatCount, IsTime, IsWithin, noted, non_default_seats}
+use Rattle.hand_canon.specs.declared.notes.Clock.{Clock}
+use Rattle.hand_canon.specs.declared.notes.Notes.{Notes}
 use Rattle.ohh_members.specs.declared.fault.MemberFault.{MemberFault}
 use Rattle.ohh_members.specs.declared.fault.Path.{Path}
 use Rattle.ohh_members.specs.declared.fault.Path.TheVariants as paths
 use Rattle.ohh_members.specs.Players.{PlainPlayer}
 use Rattle.ohh_members.specs.Values.{field, number_said, text_said}
-use Rattle.ohh_facts.specs.MomentRanges.{IsMoment}
-use Rattle.ohh_facts.specs.Moments as moments
-use Rattle.ohh_facts.specs.Notes.{label_said, labels_said, names_from, note_said, notes_said, seat_count_said, text_note_said}
-use Rattle.hand_records.specs.declared.notes.Moment.{Moment}
+use Rattle.ohh_reading.specs.MomentRanges.{IsMoment}
+use Rattle.ohh_reading.specs.Moments as moments
+use Rattle.ohh_reading.specs.Notes.{label_said, labels_said, names_from, note_said, notes_said, seat_count_said, text_note_said}
+use Rattle.hand_canon.specs.declared.notes.Moment.{Moment}
 use Rattle.ohh_writing.specs.Moment.{moment_of, moment_said, moment_text}
 use Rattle.ohh_writing.specs.Seating.{number_among, numbers_spelled}
 use Rattle.ohh_writing.specs.Tree.{whole}
@@ -31,10 +31,10 @@ use Rattle.ohh_format.proofs.SeatingAgain.{players_from}
 use Rattle.card_set.proofs.Bytes.{same_bytes}
 use Rattle.card_set.proofs.Entries.{zero_taken_at}
 use Rattle.card_set.proofs.Options.{from_none_some, none_anyway}
-use Rattle.hand_records.proofs.NoteTexts.{not_empty, noted_again}
+use Rattle.hand_canon.proofs.NoteTexts.{not_empty, noted_again}
 use Rattle.chip_ledger.specs.SeatsSaid.{default_name}
-use Rattle.hand_records.specs.NoteTable.{texts_of}
-use Rattle.hand_records.specs.SaidNotes.{hand_name_noted}
+use Rattle.hand_canon.specs.NoteTable.{texts_of}
+use Rattle.hand_canon.specs.SaidNotes.{hand_name_noted}
 
 -- ---- texts
 

@@ -7,15 +7,15 @@ use Rattle.serde_json.specs.Data.{Members, member, no_members, object}
 use Rattle.serde_json.specs.Written.{compact_text}
 use Rattle.chip_ledger.specs.Seat.{seats_of}
 use Rattle.chip_ledger.specs.SeatsSaid.{default_name}
-use Rattle.hand_records.specs.SaidNotes.{SaidNotes, name_said, notes_of, numbers_said, said_notes}
+use Rattle.hand_canon.specs.SaidNotes.{SaidNotes, name_said, notes_of, numbers_said, said_notes}
 use Rattle.hand_canon.specs.Sound.{IsSound}
-use Rattle.hand_records.proofs.Refusals.{none_refused}
-use Rattle.hand_records.specs.AllowedNotes.{name_written}
-use Rattle.hand_records.specs.WriteRefusals.{first_refusal, refusal_from}
-use Rattle.hand_records.specs.declared.notes.Notes.{Notes}
-use Rattle.hand_records.specs.declared.trace.Play.{Play}
-use Rattle.hand_records.specs.declared.trace.Trace.{Trace}
-use Rattle.hand_records.specs.declared.writing.Keep.{Keep}
+use Rattle.hand_canon.proofs.Refusals.{none_refused}
+use Rattle.hand_canon.specs.AllowedNotes.{name_written}
+use Rattle.hand_canon.specs.WriteRefusals.{first_refusal, refusal_from}
+use Rattle.hand_canon.specs.declared.notes.Notes.{Notes}
+use Rattle.hand_canon.specs.declared.trace.Play.{Play}
+use Rattle.hand_canon.specs.declared.trace.Trace.{Trace}
+use Rattle.hand_canon.specs.declared.writing.Keep.{Keep}
 use Rattle.card_set.proofs.NumbersOfRange.{map_agree}
 use Rattle.ohh_format.proofs.ReadBack.{events_said, play_again}
 use Rattle.hand_canon.proofs.SamePlay.{setup_same}
@@ -28,19 +28,19 @@ use Rattle.ohh_writing.specs.Moment.{moment_of, moment_said}
 use Rattle.ohh_writing.specs.Seating.{is_circular, number_among, numbers_spelled}
 use Rattle.ohh_writing.specs.Spelled.{unspelled}
 use Rattle.ohh_writing.specs.Tree.{hand_members, hand_tree, player_tree}
-use Rattle.hand_records.specs.declared.notes.Moment.{Moment}
+use Rattle.hand_canon.specs.declared.notes.Moment.{Moment}
 use Rattle.ohh_members.specs.declared.dialect.Dialect.{Dialect}
 use Rattle.ohh_reading.specs.Reading.{reading}
 use Rattle.play_event.specs.HistoryRules.{history_rules}
 use Rattle.play_event.specs.Said.{Numbered}
-use Rattle.hand_records.proofs.NoteLaws.{AreUnusual, at_seat, label_or_place, notes_same, unusual_said}
+use Rattle.hand_canon.proofs.NoteLaws.{AreUnusual, at_seat, label_or_place, notes_same, unusual_said}
 use Rattle.trace_laws.proofs.SameWords.{one_trace}
-use Rattle.hand_records.specs.SameHands.{AllPaired, AreSameHand, AreSameHands}
+use Rattle.hand_canon.specs.SameHands.{AllPaired, AreSameHand, AreSameHands}
 use Rattle.hand_canon.proofs.UnusualNumbers.{unusual}
 use Rattle.first_fault.specs.declared.limits.TheConstants.{MOST_FILE_MOVES, MOST_HANDS}
-use Rattle.hand_records.specs.Moves.{moves_played}
+use Rattle.hand_canon.specs.Moves.{moves_played}
 use Rattle.ohh_format.proofs.KeptAgain.{read_kept}
-use Rattle.hand_records.specs.PlainHands.{PlainHand}
+use Rattle.hand_canon.specs.PlainHands.{PlainHand}
 
 -- ---- numbers and moments that are kept
 

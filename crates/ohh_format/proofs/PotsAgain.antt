@@ -18,14 +18,14 @@ use Rattle.chip_ledger.specs.declared.pots.Pot.{Pot}
 use Rattle.chip_ledger.specs.declared.seat_row.SeatRow.{SeatRow}
 use Rattle.chip_ledger.specs.declared.seat_row.TheConstants.{MOST_AMOUNT}
 use Rattle.hand_canon.specs.Agreement.{pot_total_of, win_of}
-use Rattle.hand_records.specs.declared.trace.Trace.{Trace}
+use Rattle.hand_canon.specs.declared.trace.Trace.{Trace}
 use Rattle.ohh_members.specs.declared.fault.MemberFault.{MemberFault}
 use Rattle.ohh_members.specs.declared.fault.Path.TheVariants as paths
 use Rattle.first_fault.specs.Reading.{added_from}
 use Rattle.ohh_members.specs.Values.{field, list_said, number_said, object_said, required}
-use Rattle.ohh_facts.specs.PotSums.{PlainListedPot, all_of, rake_at, rakes_said}
-use Rattle.ohh_facts.specs.Pots.{PlainPaid, PlainPots, amount_said, listed_paid, no_pots, none_paid, pot_added, pots_said, rake_said, summed, wins_said}
-use Rattle.ohh_facts.specs.Won.{PlainWin, won_by}
+use Rattle.ohh_reading.specs.PotSums.{PlainListedPot, all_of, rake_at, rakes_said}
+use Rattle.ohh_reading.specs.Pots.{PlainPaid, PlainPots, amount_said, listed_paid, no_pots, none_paid, pot_added, pots_said, rake_said, summed, wins_said}
+use Rattle.ohh_reading.specs.Won.{PlainWin, won_by}
 use Rattle.ohh_writing.specs.Tree.{pot_tree, pot_trees, share_at, win_tree}
 use Rattle.ohh_writing.specs.Tree as tree
 use Rattle.ohh_format.proofs.CardLists.{listed_again}

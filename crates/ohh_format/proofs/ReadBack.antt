@@ -16,11 +16,11 @@ use Rattle.canon_laws.specs.Confluence.{HasTraceOf}
 use Rattle.canon_laws.specs.OtherRules.{SuitsRules}
 use Rattle.canon_laws.proofs.SuitedMoves.{played_by}
 use Rattle.first_fault.specs.declared.limits.TheConstants.{MOST_FILE_MOVES, MOST_HANDS}
-use Rattle.hand_records.specs.SoundRecord.{script_said}
-use Rattle.hand_records.specs.TraceRows.{core_said}
-use Rattle.hand_records.specs.declared.record.Record.{Record}
-use Rattle.hand_records.specs.declared.trace.Play.{Play}
-use Rattle.hand_records.specs.declared.writing.Keep.{Keep}
+use Rattle.hand_canon.specs.SoundRecord.{script_said}
+use Rattle.hand_canon.specs.TraceRows.{core_said}
+use Rattle.hand_canon.specs.declared.record.Record.{Record}
+use Rattle.hand_canon.specs.declared.trace.Play.{Play}
+use Rattle.hand_canon.specs.declared.writing.Keep.{Keep}
 use Rattle.hand_canon.specs.LegalHand.{IsLegalHand, IsShareable}
 use Rattle.hand_canon.specs.Sound.{IsSound}
 use Rattle.hand_canon.specs.WholeTrace.{IsTraceOf}
@@ -40,13 +40,13 @@ use Rattle.ohh_format.proofs.SoundPlays.{fact_holds, sound_again, spelled_setup}
 use Rattle.ohh_format.proofs.StatedAgrees.{stated_agrees}
 use Rattle.ohh_format.proofs.WordPlays.{words_of, words_played}
 use Rattle.first_fault.specs.Numbers.{saturated}
-use Rattle.hand_records.specs.Moves.{moves_played}
-use Rattle.hand_records.proofs.Refusals.{both_none, none_refused}
+use Rattle.hand_canon.specs.Moves.{moves_played}
+use Rattle.hand_canon.proofs.Refusals.{both_none, none_refused}
 use Rattle.play_event.proofs.ScriptLaws.{said_numbered}
-use Rattle.hand_records.specs.WriteRefusals.{refusal_from, first_refusal}
+use Rattle.hand_canon.specs.WriteRefusals.{refusal_from, first_refusal}
 use Rattle.hand_canon.proofs.SameTraces.{whole_same}
-use Rattle.hand_records.specs.PlainHands.{PlainHand, plain}
-use Rattle.hand_records.specs.SaidNotes.{KeepsNotes, plain_notes}
+use Rattle.hand_canon.specs.PlainHands.{PlainHand, plain}
+use Rattle.hand_canon.specs.SaidNotes.{KeepsNotes, plain_notes}
 
 -- a play that the format can write has no closed raise
 spelled_open : (keep : Keep) (play : Play) → unspelled keep play ≡ None → list_any (λ move. move.closed) (core_said play.trace).moves ≡ false

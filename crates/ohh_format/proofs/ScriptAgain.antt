@@ -9,8 +9,8 @@ use Rattle.chip_ledger.specs.LiveRow.{flag_of}
 use Rattle.chip_ledger.specs.Seat.{seats_of}
 use Rattle.chip_ledger.specs.SeatRow.{amount_of}
 use Rattle.play_event.specs.CanonScript.{board_said, deal_said, deals_said, dealt_slots, held_slots, plain_moves, showdown_said}
-use Rattle.hand_records.specs.TraceRows.{core_said}
-use Rattle.hand_records.specs.declared.trace.Trace.{Trace}
+use Rattle.hand_canon.specs.TraceRows.{core_said}
+use Rattle.hand_canon.specs.declared.trace.Trace.{Trace}
 use Rattle.card_set.proofs.NumbersOfRange.{flat_none}
 use Rattle.play_event.specs.Chips.{blind_posted}
 use Rattle.play_event.specs.Said as said

@@ -15,8 +15,8 @@ use Rattle.chip_ledger.specs.declared.seat_row.SeatRow.{SeatRow}
 use Rattle.chip_ledger.specs.Seat.{seats_of}
 use Rattle.chip_ledger.specs.SeatRow.{amount_of}
 use Rattle.first_fault.specs.declared.limits.TheConstants.{MOST_TEXT_BYTES}
-use Rattle.hand_records.specs.AllowedNotes.{IsName, name_written}
-use Rattle.hand_records.specs.declared.notes.Notes.{Notes}
+use Rattle.hand_canon.specs.AllowedNotes.{IsName, name_written}
+use Rattle.hand_canon.specs.declared.notes.Notes.{Notes}
 use Rattle.ohh_members.specs.declared.fault.Path.TheVariants as paths
 use Rattle.ohh_members.specs.Players.{PlainPlayer, above, button_said, has_id, has_seat, id_said, lower, lowest, next_player, player_added, player_at, player_said, players_said, round_from, seat_said, seated, seated_said, short_text_said, stack_said}
 use Rattle.first_fault.specs.Reading.{added_from}

@@ -10,14 +10,14 @@ use Rattle.play_event.specs.declared.setup.Setup.{Setup}
 use Rattle.play_event.specs.TraceCore.{TraceCore}
 use Rattle.canon_laws.proofs.SuitedRules.{suits_own}
 use Rattle.hand_canon.specs.LegalPlay.{IsTraceOfLegal}
-use Rattle.hand_records.specs.SoundRecord.{script_said}
-use Rattle.hand_records.specs.declared.record.Record.{Record}
-use Rattle.hand_records.specs.declared.trace.Play.{Play}
-use Rattle.hand_records.specs.declared.trace.Trace.{Trace}
-use Rattle.hand_records.specs.declared.writing.Keep.{Keep}
-use Rattle.hand_records.specs.declared.writing.Keep.TheVariants as keeps
-use Rattle.hand_records.specs.declared.writing.Unspelled.{Unspelled}
-use Rattle.hand_records.specs.declared.writing.Unspelled.TheVariants as facts
+use Rattle.hand_canon.specs.SoundRecord.{script_said}
+use Rattle.hand_canon.specs.declared.record.Record.{Record}
+use Rattle.hand_canon.specs.declared.trace.Play.{Play}
+use Rattle.hand_canon.specs.declared.trace.Trace.{Trace}
+use Rattle.hand_canon.specs.declared.writing.Keep.{Keep}
+use Rattle.hand_canon.specs.declared.writing.Keep.TheVariants as keeps
+use Rattle.hand_canon.specs.declared.writing.Unspelled.{Unspelled}
+use Rattle.hand_canon.specs.declared.writing.Unspelled.TheVariants as facts
 use Rattle.ohh_members.specs.declared.dialect.Dialect.{Dialect}
 use Rattle.ohh_writing.specs.Games.{is_spelled_game}
 use Rattle.ohh_writing.specs.Spelled.{Tried, first_unspelled, has_closed, has_spelled_antes, has_spelled_blinds, has_spelled_sizes, kept_facts, note_facts, trace_facts, unspelled}
@@ -26,8 +26,8 @@ use Rattle.ohh_format.specs.Sharp.{is_sharp}
 use Rattle.ohh_format.proofs.ToldHands.{IsToldHand, reading_told}
 use Rattle.ohh_format.proofs.ToldSetups.{antes_spelled, blinds_spelled, sizes_spelled}
 use Rattle.hand_canon.specs.Sharp.{IsOther}
-use Rattle.hand_records.specs.WriteRefusals.{or_behind}
-use Rattle.hand_records.specs.PlainHands.{plain}
+use Rattle.hand_canon.specs.WriteRefusals.{or_behind}
+use Rattle.hand_canon.specs.PlainHands.{plain}
 
 -- no raise of a legal hand is closed under the rules of hand histories
 none_closed : (trace : Trace) (hand : Record) → hand.rules ≡ history_rules → IsTraceOfLegal hand trace → has_closed trace ≡ false

@@ -15,14 +15,14 @@ use Rattle.chip_ledger.specs.SeatRow.{amount_of}
 use Rattle.chip_ledger.specs.declared.numbers.TheConstants.{MOST_CHIPS}
 use Rattle.first_fault.specs.declared.limits.TheConstants.{MOST_FILE_MOVES, MOST_HANDS}
 use Rattle.hand_canon.specs.Sound.{IsSound}
-use Rattle.hand_records.proofs.Refusals.{both_none, none_refused}
-use Rattle.hand_records.specs.AllowedNotes.{AreAllowed}
-use Rattle.hand_records.specs.SoundRecord.{script_said}
-use Rattle.hand_records.specs.TraceRows.{core_said}
-use Rattle.hand_records.specs.declared.trace.Play.{Play}
-use Rattle.hand_records.specs.declared.trace.Trace.{Trace}
-use Rattle.hand_records.specs.declared.writing.Keep.{Keep}
-use Rattle.hand_records.specs.declared.writing.Unspelled.{Unspelled}
+use Rattle.hand_canon.proofs.Refusals.{both_none, none_refused}
+use Rattle.hand_canon.specs.AllowedNotes.{AreAllowed}
+use Rattle.hand_canon.specs.SoundRecord.{script_said}
+use Rattle.hand_canon.specs.TraceRows.{core_said}
+use Rattle.hand_canon.specs.declared.trace.Play.{Play}
+use Rattle.hand_canon.specs.declared.trace.Trace.{Trace}
+use Rattle.hand_canon.specs.declared.writing.Keep.{Keep}
+use Rattle.hand_canon.specs.declared.writing.Unspelled.{Unspelled}
 use Rattle.card_set.proofs.Reversed.{count_reversed}
 use Rattle.play_event.proofs.ChipLaws.{puts_within}
 use Rattle.play_event.specs.Chips.{blind_posted}
@@ -66,10 +66,10 @@ use Rattle.ohh_format.proofs.ToldEffects.{IsGoodPost}
 use Rattle.ohh_format.proofs.WinsAgain.{seat_again}
 use Rattle.card_set.proofs.Lists.{none_from_length}
 use Rattle.card_set.proofs.Options.{from_some_none}
-use Rattle.hand_records.specs.Moves.{moves_played}
-use Rattle.hand_records.specs.WriteRefusals.{refusal_from, first_refusal}
+use Rattle.hand_canon.specs.Moves.{moves_played}
+use Rattle.hand_canon.specs.WriteRefusals.{refusal_from, first_refusal}
 use Rattle.play_event.proofs.ScriptLaws.{at_end}
-use Rattle.hand_records.specs.Plays.{moves_written}
+use Rattle.hand_canon.specs.Plays.{moves_written}
 use Rattle.play_event.proofs.TracedMoves.{as_many}
 
 -- ---- the facts that can be written

@@ -20,7 +20,7 @@ use Rattle.chip_ledger.specs.declared.seat_row.TheConstants.{MOST_AMOUNT}
 use Rattle.play_event.specs.TraceCore.{core_of}
 use Rattle.hand_canon.specs.LegalHand.{IsShareable, showdown_in}
 use Rattle.hand_canon.specs.WholeTrace.{IsTraceOf}
-use Rattle.hand_records.specs.declared.trace.Trace.{Trace}
+use Rattle.hand_canon.specs.declared.trace.Trace.{Trace}
 use Rattle.play_event.specs.Chips.{chips_put}
 use Rattle.play_event.specs.Past.{Past, moves_of}
 use Rattle.play_event.specs.CurrentBet.{all_chips_put}

@@ -10,8 +10,8 @@ use Rattle.play_event.specs.TraceCore.{TraceCore}
 use Rattle.chip_ledger.specs.LiveRow.{flag_of, flagged}
 use Rattle.chip_ledger.specs.declared.live_row.LiveRow.{LiveRow}
 use Rattle.hand_canon.specs.WholeTrace.{IsTraceOf}
-use Rattle.hand_records.specs.TraceRows.{core_said}
-use Rattle.hand_records.specs.declared.trace.Trace.{Trace}
+use Rattle.hand_canon.specs.TraceRows.{core_said}
+use Rattle.hand_canon.specs.declared.trace.Trace.{Trace}
 use Rattle.play_event.specs.Past.{Move, Past, moves_of}
 use Rattle.play_event.specs.Said as said
 use Rattle.play_event.specs.Said.{Said}

@@ -7,9 +7,9 @@ use Rattle.std.proofs.lemmas.List.FromFn.{length-range_with_len}
 use Rattle.chip_ledger.specs.SeatRow.{amount_of, amounts_in}
 use Rattle.chip_ledger.specs.declared.seat_row.SeatRow.{SeatRow}
 use Rattle.play_event.specs.Seats.{all_seats}
-use Rattle.hand_records.specs.declared.record.NetRow.{NetRow}
-use Rattle.hand_records.specs.declared.record.Stated.{Stated}
-use Rattle.hand_records.specs.declared.trace.Trace.{Trace}
+use Rattle.hand_canon.specs.declared.record.NetRow.{NetRow}
+use Rattle.hand_canon.specs.declared.record.Stated.{Stated}
+use Rattle.hand_canon.specs.declared.trace.Trace.{Trace}
 use Rattle.hand_canon.specs.Agreement.{Comparison, finish_compared, first_difference, is_different, pot_total_of, pots_compared, seats_compared, total_compared, value_compared, win_compared, win_of}
 use Rattle.card_set.proofs.Integers.{not_different_whole}
 use Rattle.card_set.proofs.NumbersOfRange.{mapped_at}

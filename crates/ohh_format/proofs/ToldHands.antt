@@ -16,8 +16,8 @@ use Rattle.ohh_members.specs.Blinds.{blinds_said, fitting, is_fixed_game}
 use Rattle.ohh_members.specs.Header.{PlainFront, front_said, ids_of, stacks_of}
 use Rattle.ohh_members.specs.Game.{game_said}
 use Rattle.ohh_members.specs.Players.{seated_said}
-use Rattle.ohh_facts.specs.Notes.{notes_said}
-use Rattle.ohh_facts.specs.Pots.{pots_said}
+use Rattle.ohh_reading.specs.Notes.{notes_said}
+use Rattle.ohh_reading.specs.Pots.{pots_said}
 use Rattle.ohh_rounds.specs.Rounds.{steps_said}
 use Rattle.ohh_members.specs.Values.{field, number_said, object_said, or_wrong, required, text_said, wrong}
 use Rattle.ohh_members.specs.declared.blinds.Blinds.{Blinds}
@@ -44,7 +44,7 @@ use Rattle.ohh_reading.specs.Sizes.{sizes_of}
 use Rattle.ohh_reading.specs.declared.fault.OhhHandFault.{OhhHandFault}
 use Rattle.ohh_reading.specs.declared.fault.HandFaultKind.TheVariants as wrongness
 use Rattle.first_fault.proofs.Thread.{bound}
-use Rattle.hand_records.specs.PlainHands.{PlainHand, PlainSetup}
+use Rattle.hand_canon.specs.PlainHands.{PlainHand, PlainSetup}
 
 -- the same, by what holds of the first part
 bound_by : {A B F : Type 0} (P : A → Type 0) (Q : B → Type 0) (first : Result A F) (next : A → Result B F) → IfOk first P → ((a : A) → P a → IfOk (next a) Q) → IfOk (first >>= next) Q

@@ -19,11 +19,11 @@ use Rattle.ohh_rounds.specs.PostRules.{has_all_antes}
 use Rattle.ohh_rounds.specs.Posts.{PlainPost, ante_of, first_ante, first_straddle}
 use Rattle.ohh_rounds.specs.AntesAndBlinds.{PlainAntesAndBlinds, antes_and_blinds_said, are_dead, held_ante, named_blind}
 use Rattle.ohh_rounds.specs.NamedBlinds.{PlainNamedBlinds, seat_count, stack_of}
-use Rattle.hand_records.specs.declared.sizes.Sizes.{Sizes}
+use Rattle.hand_canon.specs.declared.sizes.Sizes.{Sizes}
 use Rattle.ohh_format.proofs.ToldHands.{IsToldSetup}
 use Rattle.ohh_format.proofs.ToldPosts.{ante_even, ante_within, straddle_few}
 use Rattle.card_set.proofs.Entries.{at_taken}
-use Rattle.hand_records.specs.PlainHands.{plain_setup}
+use Rattle.hand_canon.specs.PlainHands.{plain_setup}
 
 -- ---- ranges
 

@@ -12,8 +12,8 @@ use Rattle.chip_ledger.specs.Seat.{seats_of}
 use Rattle.chip_ledger.specs.SeatRow.{amount_of}
 use Rattle.first_fault.specs.Reading.{added_from}
 use Rattle.ohh_members.specs.Values.{required, number_said, integer_said, object_said, player_said, seat_from, seat_of}
-use Rattle.ohh_facts.specs.Pots.{summed, win_added, win_said}
-use Rattle.ohh_facts.specs.Won.{PlainWin, won_by}
+use Rattle.ohh_reading.specs.Pots.{summed, win_added, win_said}
+use Rattle.ohh_reading.specs.Won.{PlainWin, won_by}
 use Rattle.ohh_format.proofs.SameNumbers.{other_number}
 use Rattle.ohh_writing.specs.Tree.{win_object, win_tree}
 use Rattle.card_set.proofs.Integers.{same_whole}

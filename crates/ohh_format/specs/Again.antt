@@ -15,20 +15,20 @@ use Rattle.play_event.specs.Seats.{all_seats}
 use Rattle.play_event.specs.Trace.{TracedMove, TracedPlace}
 use Rattle.play_event.specs.CanonScript.{deals_said, plain_moves, showdown_said}
 use Rattle.hand_canon.specs.Agreement.{pot_total_of, win_of}
-use Rattle.hand_records.specs.TraceRows.{core_said}
-use Rattle.hand_records.specs.declared.notes.Notes.{Notes}
-use Rattle.hand_records.specs.declared.trace.Play.{Play}
-use Rattle.hand_records.specs.declared.trace.Trace.{Trace}
+use Rattle.hand_canon.specs.TraceRows.{core_said}
+use Rattle.hand_canon.specs.declared.notes.Notes.{Notes}
+use Rattle.hand_canon.specs.declared.trace.Play.{Play}
+use Rattle.hand_canon.specs.declared.trace.Trace.{Trace}
 use Rattle.ohh_members.specs.declared.dialect.Dialect.{Dialect}
 use Rattle.ohh_members.specs.declared.dialect.Dialect.TheVariants as dialects
 use Rattle.ohh_writing.specs.Actions.{has_known, posts}
 use Rattle.ohh_writing.specs.Moment.{moment_of}
 use Rattle.ohh_writing.specs.Seating.{numbers_spelled}
 use Rattle.first_fault.specs.Numbers.{saturated}
-use Rattle.hand_records.specs.AllowedNotes.{non_default_seats}
-use Rattle.hand_records.specs.NoteTable.{texts_of}
-use Rattle.hand_records.specs.PlainHands.{PlainHand, plain_setup}
-use Rattle.hand_records.specs.SaidNotes.{SaidNotes, hand_name_noted}
+use Rattle.hand_canon.specs.AllowedNotes.{non_default_seats}
+use Rattle.hand_canon.specs.NoteTable.{texts_of}
+use Rattle.hand_canon.specs.PlainHands.{PlainHand, plain_setup}
+use Rattle.hand_canon.specs.SaidNotes.{SaidNotes, hand_name_noted}
 
 -- ---- moves
 

@@ -3,8 +3,8 @@
 use Rattle.std.specs.Prelude.{ℕ, List, if◌then◌else◌, Option, Some, None, option_and_then, option_map, codes}
 use Rattle.ohh_writing.specs.Moment.{moment_said}
 use Rattle.ohh_writing.specs.Seating.{is_circular}
-use Rattle.hand_records.specs.declared.notes.Moment.{Moment}
-use Rattle.hand_records.specs.SaidNotes.{SaidNotes}
+use Rattle.hand_canon.specs.declared.notes.Moment.{Moment}
+use Rattle.hand_canon.specs.SaidNotes.{SaidNotes}
 
 -- numbers of seats that go round
 abbrev pub numbers_round : List ℕ → Option (List ℕ)

@@ -3,23 +3,23 @@ ghost use Rattle.std.specs.Prelude.{◌≡◌, ℕ, ◌≤◌, true, List, None,
 ghost use Rattle.std.specs.List.{AllByRecursion};
 ghost use Rattle.first_fault.specs.declared.limits.TheConstants.{MOST_FILE_MOVES, MOST_HANDS};
 ghost use Rattle.hand_canon.specs.Sound.{IsSound};
-ghost use Rattle.hand_records.specs.declared.record.Record.{Record};
-ghost use Rattle.hand_records.specs.declared.trace.Play.{Play};
-ghost use Rattle.hand_records.specs.declared.writing.Keep.{Keep};
-ghost use Rattle.hand_records.specs.declared.writing.Unspelled.{Unspelled};
+ghost use Rattle.hand_canon.specs.declared.record.Record.{Record};
+ghost use Rattle.hand_canon.specs.declared.trace.Play.{Play};
+ghost use Rattle.hand_canon.specs.declared.writing.Keep.{Keep};
+ghost use Rattle.hand_canon.specs.declared.writing.Unspelled.{Unspelled};
 ghost use Rattle.ohh_members.specs.declared.dialect.Dialect.{Dialect};
 ghost use Rattle.ohh_writing.specs.Lines.{Spells};
 ghost use Rattle.ohh_writing.specs.Spelled.{unspelled};
 ghost use Rattle.ohh_reading.specs.Reading.{reading};
 ghost use Rattle.ohh_format.specs.Again.{hands_again};
-ghost use Rattle.hand_records.specs.Moves.{moves_played};
+ghost use Rattle.hand_canon.specs.Moves.{moves_played};
 ghost use Rattle.hand_canon.specs.ReadAgain.{AreAgain};
-ghost use Rattle.hand_records.specs.SaidNotes.{KeepsNotes};
+ghost use Rattle.hand_canon.specs.SaidNotes.{KeepsNotes};
 ghost use Rattle.ohh_format.specs.KeptNotes.{kept_in_ohh};
 ghost use Rattle.ohh_format.specs.Sharp.{is_sharp};
 ghost use Rattle.hand_canon.specs.Sharp.{IsOther};
-ghost use Rattle.hand_records.specs.WriteRefusals.{first_refusal};
-ghost use Rattle.hand_records.specs.PlainHands.{plain};
+ghost use Rattle.hand_canon.specs.WriteRefusals.{first_refusal};
+ghost use Rattle.hand_canon.specs.PlainHands.{plain};
 
 /// Take bytes that spell sound plays in a dialect, where plays and moves are within the limits of a
 /// file and the format can write each play. Read in the same dialect, they are the hands of these

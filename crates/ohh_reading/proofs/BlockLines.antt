@@ -3,7 +3,7 @@ use Rattle.std.proofs.Common.{◌≡◌, ℕ, ◌+◌, Bool, true, false, if◌t
 use Rattle.std.specs.Prelude.{nat_lt}
 use Rattle.first_fault.specs.Reading.{◌>>=◌, thread_from}
 use Rattle.first_fault.specs.declared.limits.TheConstants.{MOST_HANDS}
-use Rattle.hand_records.specs.PlainHands.{PlainHand}
+use Rattle.hand_canon.specs.PlainHands.{PlainHand}
 use Rattle.ohh_members.specs.declared.dialect.Dialect.{Dialect}
 use Rattle.ohh_reading.specs.Begins.{block_lines, block_lines_from}
 use Rattle.ohh_reading.specs.Blocks.{blocks_from, blocks_of, is_blank, lines_of}

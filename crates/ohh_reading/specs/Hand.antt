@@ -1,16 +1,16 @@
 -- A hand: its members are read in this order.
 use Rattle.std.specs.Prelude.{ℕ, None, Result, Ok}
 use Rattle.serde_json.specs.Data.{Data}
-use Rattle.hand_records.specs.PlainHands.{PlainHand}
-use Rattle.hand_records.specs.SaidNotes.{SaidNotes}
+use Rattle.hand_canon.specs.PlainHands.{PlainHand}
+use Rattle.hand_canon.specs.SaidNotes.{SaidNotes}
 use Rattle.play_event.specs.HistoryRules.{history_rules}
 use Rattle.play_event.specs.Games.{game_of}
 use Rattle.first_fault.specs.Reading.{◌>>=◌}
 use Rattle.ohh_members.specs.declared.dialect.Dialect.{Dialect}
 use Rattle.ohh_members.specs.declared.fault.MemberFault.{MemberFault}
 use Rattle.ohh_members.specs.Header.{PlainFront, front_said, ids_of, stacks_of}
-use Rattle.ohh_facts.specs.Notes.{notes_said}
-use Rattle.ohh_facts.specs.Pots.{PlainPaid, pots_said}
+use Rattle.ohh_reading.specs.Notes.{notes_said}
+use Rattle.ohh_reading.specs.Pots.{PlainPaid, pots_said}
 use Rattle.ohh_rounds.specs.Play.{PlainPlay, rounds_said}
 use Rattle.ohh_rounds.specs.HandContext.{PlainHandContext}
 use Rattle.ohh_reading.specs.Sizes.{sizes_of}

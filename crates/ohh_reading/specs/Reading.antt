@@ -5,7 +5,7 @@ use Rattle.serde_json.specs.Data.{Data, object}
 use Rattle.serde_json.specs.Read.{read}
 use Rattle.first_fault.specs.declared.limits.Quantity.TheVariants as quantities
 use Rattle.first_fault.specs.declared.limits.TheConstants.{MOST_HANDS}
-use Rattle.hand_records.specs.declared.record.Record.{Record}
+use Rattle.hand_canon.specs.declared.record.Record.{Record}
 use Rattle.first_fault.specs.Reading.{◌>>=◌, thread_from}
 use Rattle.ohh_members.specs.declared.dialect.Dialect.{Dialect}
 use Rattle.ohh_members.specs.declared.fault.MemberFault.{MemberFault}
@@ -21,7 +21,7 @@ use Rattle.ohh_reading.specs.declared.fault.OhhFault.{OhhFault}
 use Rattle.ohh_reading.specs.declared.fault.OhhFault.TheVariants as faults
 use Rattle.ohh_reading.specs.Blocks.{blocks_of}
 use Rattle.ohh_reading.specs.Hand.{hand_said}
-use Rattle.hand_records.specs.PlainHands.{PlainHand, plain}
+use Rattle.hand_canon.specs.PlainHands.{PlainHand, plain}
 
 -- the object of the hand in a tree
 abbrev pub object_of : Option Data → Result Data MemberFault

@@ -2,7 +2,7 @@
 use Rattle.std.specs.Prelude.{ℕ, ◌*◌, if◌then◌else◌}
 use Rattle.play_event.specs.declared.code.Code.{Code}
 use Rattle.ohh_members.specs.Blinds.{is_fixed_game}
-use Rattle.hand_records.specs.declared.sizes.Sizes.{Sizes}
+use Rattle.hand_canon.specs.declared.sizes.Sizes.{Sizes}
 
 -- in fixed limit the bets are the big blind and twice that; in the other limits the big blind is
 -- the least bet

@@ -8,15 +8,15 @@ ghost use Rattle.ohh_members.specs.declared.fault.Path.TheVariants as paths;
 ghost use Rattle.ohh_members.specs.Values as values;
 ghost use Rattle.ohh_reading.specs.Blocks.{blocks_of};
 ghost use Rattle.ohh_reading.specs.Reading.{hands_said, numbered_hand, object_of, tree_of, tree_said};
-ghost use Rattle.hand_records.specs.Histories.{AreHistories, IsNextHand};
-ghost use Rattle.hand_records.specs.PlainHands.{plain};
+ghost use Rattle.hand_canon.specs.Histories.{AreHistories, IsNextHand};
+ghost use Rattle.hand_canon.specs.PlainHands.{plain};
 
 use crate::blocks::cut_blocks;
 use crate::fault::{HandFaultKind, OhhHandFault};
 use crate::hand::read_hand;
 use card_set::Memory;
 use first_fault::{MOST_HANDS, Quantity, ReadError};
-use hand_records::{Record, Records};
+use hand_canon::{Record, Records};
 use ohh_members::Dialect;
 use ohh_members::fault::{MemberFault, MemberFaultKind, Path};
 use ohh_members::values::{fault_at, field};

@@ -1,24 +1,24 @@
 //! Reads the parts of a hand other than its play, with what comes before its rounds.
 ghost use Rattle.std.specs.Prelude.{◌≡◌, ◌<◌, ℕ, length, map, slice_index, IfOk};
 ghost use Rattle.serde_json.specs.View.{view};
-ghost use Rattle.hand_records.specs.AllowedNotes.{AreAllowed};
+ghost use Rattle.hand_canon.specs.AllowedNotes.{AreAllowed};
 ghost use Rattle.play_event.specs.ValidSetup.{IsSize};
 ghost use Rattle.first_fault.specs.Reading.{Gives};
-ghost use Rattle.ohh_facts.specs.Notes.{notes_said};
-ghost use Rattle.ohh_facts.specs.Pots.{IsPaid, plain_paid, pots_said};
+ghost use Rattle.ohh_reading.specs.Notes.{notes_said};
+ghost use Rattle.ohh_reading.specs.Pots.{IsPaid, plain_paid, pots_said};
 ghost use Rattle.ohh_members.specs.Header.{IsFront, stacks_of};
 ghost use Rattle.ohh_members.specs.Header as header;
 ghost use Rattle.chip_ledger.specs.SeatRow.{amounts_in};
 ghost use Rattle.ohh_members.specs.Players.{plain_player};
-ghost use Rattle.hand_records.specs.SaidNotes.{plain_notes};
+ghost use Rattle.hand_canon.specs.SaidNotes.{plain_notes};
 
+use crate::listed_pots::Paid;
+use crate::notes::read_notes;
+use crate::pots::read_pots;
 use card_set::Memory;
 use chip_ledger::SeatRow;
 use first_fault::ReadError;
-use hand_records::Notes;
-use ohh_facts::listed_pots::Paid;
-use ohh_facts::notes::read_notes;
-use ohh_facts::pots::read_pots;
+use hand_canon::Notes;
 use ohh_members::fault::MemberFault;
 use ohh_members::header::Header;
 use ohh_members::rows::{ids_of, stack_row};

@@ -5,13 +5,13 @@ ghost use Rattle.first_fault.specs.declared.limits.TheConstants.{MOST_FILE_MOVES
 ghost use Rattle.ohh_members.specs.Paths.{path_text};
 ghost use Rattle.ohh_reading.specs.Reading.{InHand, Reads, reading, wrong_of};
 ghost use Rattle.ohh_reading.specs.Reading as files;
-ghost use Rattle.hand_records.specs.Histories.{IsHistory};
-ghost use Rattle.hand_records.specs.Moves.{moves_of};
+ghost use Rattle.hand_canon.specs.Histories.{IsHistory};
+ghost use Rattle.hand_canon.specs.Moves.{moves_of};
 
 use crate::fault::{HandFaultKind, OhhFault, OhhHandFault};
 use crate::file::read_file;
 use first_fault::{ReadError, Text};
-use hand_records::Records;
+use hand_canon::Records;
 use ohh_members::Dialect;
 use ohh_members::fault::{MemberFault, MemberFaultKind};
 use std::alloc::Global;

@@ -1,24 +1,24 @@
 //! Makes the record of a hand from its parts.
 ghost use Rattle.std.specs.Prelude.{◌≡◌, ◌<◌, ℕ, length, map, slice_index};
 ghost use Rattle.play_event.specs.PlayedScript.{IsWithinLimits};
-ghost use Rattle.hand_records.specs.AllowedNotes.{AreAllowed};
+ghost use Rattle.hand_canon.specs.AllowedNotes.{AreAllowed};
 ghost use Rattle.play_event.specs.Said.{said_of};
 ghost use Rattle.play_event.specs.ValidSetup.{IsSize};
-ghost use Rattle.ohh_facts.specs.Pots.{IsPaid, plain_paid};
+ghost use Rattle.ohh_reading.specs.Pots.{IsPaid, plain_paid};
 ghost use Rattle.ohh_members.specs.Header.{IsFront, plain_front, stacks_of};
 ghost use Rattle.chip_ledger.specs.SeatRow.{amounts_in};
 ghost use Rattle.ohh_members.specs.Players.{plain_player};
 ghost use Rattle.ohh_rounds.specs.AntesAndBlinds.{AreAntesAndBlindsFor};
 ghost use Rattle.ohh_rounds.specs.Play.{plain_play};
 ghost use Rattle.ohh_reading.specs.Hand.{hand_of};
-ghost use Rattle.hand_records.specs.Histories.{IsHistory};
-ghost use Rattle.hand_records.specs.PlainHands.{plain};
-ghost use Rattle.hand_records.specs.SaidNotes.{plain_notes};
+ghost use Rattle.hand_canon.specs.Histories.{IsHistory};
+ghost use Rattle.hand_canon.specs.PlainHands.{plain};
+ghost use Rattle.hand_canon.specs.SaidNotes.{plain_notes};
 
+use crate::listed_pots::Paid;
 use crate::sizes::sizes_of;
 use chip_ledger::SeatRow;
-use hand_records::{Notes, Record, Stated};
-use ohh_facts::listed_pots::Paid;
+use hand_canon::{Notes, Record, Stated};
 use ohh_members::header::Header;
 use ohh_rounds::RoundsPlay;
 use play_event::{Reopen, Rules, Setup};

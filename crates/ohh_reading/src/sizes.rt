@@ -5,7 +5,7 @@ ghost use Rattle.play_event.specs.ValidSetup.{IsSizeWhere};
 ghost use Rattle.ohh_members.specs.Blinds.{is_fixed_game};
 ghost use Rattle.ohh_reading.specs.Sizes as sizes;
 
-use hand_records::Sizes;
+use hand_canon::Sizes;
 use play_event::Code;
 
 /// The bet sizes of a game with this big blind.

@@ -200,7 +200,11 @@ fn read_dealt(
 
 // A call that states the chips that it adds.
 #[tactic(auto, unfolding(crate::specs::Actions::called))]
-fn read_call(place: ActionLocation, seat: Seat, action: &Value) -> Result<Kind, ReadError<MemberFault>>
+fn read_call(
+    place: ActionLocation,
+    seat: Seat,
+    action: &Value,
+) -> Result<Kind, ReadError<MemberFault>>
     ensures { Gives (λ kind. Happened (kind_said kind)) result
         (called place seat.number (view action.now)) }
 {
@@ -251,7 +255,11 @@ fn raise_of(dialect: Dialect, amount: Chips) -> Spelled
 
 // A show of cards.
 #[tactic(auto, unfolding(crate::specs::Actions::shown))]
-fn read_show(place: ActionLocation, seat: Seat, action: &Value) -> Result<Kind, ReadError<MemberFault>>
+fn read_show(
+    place: ActionLocation,
+    seat: Seat,
+    action: &Value,
+) -> Result<Kind, ReadError<MemberFault>>
     ensures { Gives (λ kind. Happened (kind_said kind)) result
         (shown place seat.number (view action.now)) }
 {

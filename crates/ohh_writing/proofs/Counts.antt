@@ -15,8 +15,8 @@ use Rattle.play_event.specs.Seats.{all_seats}
 use Rattle.play_event.specs.Trace.{TracedMove, TracedPlace}
 use Rattle.play_event.specs.CanonScript.{dealt_slots, held_slots, plain_move}
 use Rattle.play_event.specs.declared.hand_limits.TheConstants.{MOST_MOVES}
-use Rattle.hand_records.specs.declared.trace.Trace.{Trace}
-use Rattle.hand_records.specs.TraceRows.{core_said}
+use Rattle.hand_canon.specs.declared.trace.Trace.{Trace}
+use Rattle.hand_canon.specs.TraceRows.{core_said}
 use Rattle.card_set.proofs.FlatMaps.{flat_few}
 use Rattle.ohh_members.specs.declared.dialect.Dialect.{Dialect}
 use Rattle.ohh_writing.specs.declared.action.Round.{Round}

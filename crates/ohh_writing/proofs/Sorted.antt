@@ -3,10 +3,10 @@ use Rattle.std.proofs.Common.{◌≡◌, ℕ, List, codes, Option, Some, None, d
 use Rattle.serde_json.specs.Data.{Data, Members, member, no_members, put, string}
 use Rattle.chip_ledger.specs.SeatRow.{amount_of}
 use Rattle.play_event.specs.declared.setup.Setup.{Setup}
-use Rattle.hand_records.specs.declared.notes.Notes.{Notes}
-use Rattle.hand_records.specs.declared.trace.Trace.{Trace}
+use Rattle.hand_canon.specs.declared.notes.Notes.{Notes}
+use Rattle.hand_canon.specs.declared.trace.Trace.{Trace}
 use Rattle.ohh_members.specs.declared.dialect.Dialect.{Dialect}
-use Rattle.hand_records.specs.declared.notes.Moment.{Moment}
+use Rattle.hand_canon.specs.declared.notes.Moment.{Moment}
 use Rattle.ohh_writing.specs.Actions.{PlainDetail, Nothing, Chips, Cards, small_blind_seat}
 use Rattle.ohh_writing.specs.Games.{game_word}
 use Rattle.ohh_writing.specs.Moment.{moment_of}

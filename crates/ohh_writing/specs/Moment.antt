@@ -1,8 +1,8 @@
 -- When a hand was played, as the format writes it: a date and a time in the zone UTC.
 use Rattle.std.specs.Prelude.{ℕ, zero, suc, ◌+◌, ◌/◌, ◌%◌, ◌==◌, bytes_eq, if◌then◌else◌, List, [], ◌∷◌, ◌++◌, codes, Option, Some, None}
-use Rattle.hand_records.specs.declared.notes.Clock.{Clock}
-use Rattle.hand_records.specs.declared.notes.Notes.{Notes}
-use Rattle.hand_records.specs.declared.notes.Moment.{Moment}
+use Rattle.hand_canon.specs.declared.notes.Clock.{Clock}
+use Rattle.hand_canon.specs.declared.notes.Notes.{Notes}
+use Rattle.hand_canon.specs.declared.notes.Moment.{Moment}
 
 -- the moment, if the zone is UTC
 abbrev pub moment_in : ℕ → ℕ → ℕ → Clock → List ℕ → Option Moment

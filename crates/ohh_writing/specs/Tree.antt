@@ -14,18 +14,18 @@ use Rattle.chip_ledger.specs.Seat.{seats_of}
 use Rattle.chip_ledger.specs.RakeRow.{rake_of}
 use Rattle.chip_ledger.specs.SeatRow.{amount_of}
 use Rattle.play_event.specs.declared.setup.Setup.{Setup}
-use Rattle.hand_records.specs.declared.notes.Notes.{Notes}
-use Rattle.hand_records.specs.declared.trace.Play.{Play}
-use Rattle.hand_records.specs.declared.trace.Trace.{Trace}
+use Rattle.hand_canon.specs.declared.notes.Notes.{Notes}
+use Rattle.hand_canon.specs.declared.trace.Play.{Play}
+use Rattle.hand_canon.specs.declared.trace.Trace.{Trace}
 use Rattle.ohh_members.specs.declared.dialect.Dialect.{Dialect}
 use Rattle.ohh_writing.specs.Actions.{PlainAction, PlainDetail, Nothing, Chips, Cards, small_blind_seat}
 use Rattle.ohh_writing.specs.Games.{bet_word, game_word}
-use Rattle.hand_records.specs.declared.notes.Moment.{Moment}
+use Rattle.hand_canon.specs.declared.notes.Moment.{Moment}
 use Rattle.ohh_writing.specs.Moment.{moment_of, moment_text}
 use Rattle.ohh_writing.specs.Rounds.{PlainRound, hand_rounds}
 use Rattle.ohh_writing.specs.Seating.{number_among, numbers_spelled}
 use Rattle.ohh_writing.specs.Spelled.{big_blind, greatest_ante}
-use Rattle.hand_records.specs.AllowedNotes.{name_written}
+use Rattle.hand_canon.specs.AllowedNotes.{name_written}
 use Rattle.ohh_members.specs.Streets.{street_name}
 use Rattle.ohh_members.specs.Words.{word_text}
 

@@ -3,7 +3,7 @@ ghost use Rattle.std.specs.Prelude.{◌≡◌, ◌≤◌, ◌+◌, ◌&&◌, [],
 ghost use Rattle.card_set.specs.Row.{slots_of};
 ghost use Rattle.play_event.specs.Places.{is_same_owner};
 ghost use Rattle.play_event.specs.CanonScript.{dealt_slots, held_slots};
-ghost use Rattle.hand_records.specs.TraceRows.{place_said};
+ghost use Rattle.hand_canon.specs.TraceRows.{place_said};
 ghost use Rattle.ohh_writing.specs.Actions as actions;
 
 use card_set::{Slot, SlotRow};

@@ -1,7 +1,7 @@
 //! What is written for a hand is one line, proved over the definitions.
 ghost use Rattle.std.specs.Prelude.{◌≡◌, ◌==◌, ℕ, true, not};
 ghost use Rattle.std.specs.List.{list_all};
-ghost use Rattle.hand_records.specs.declared.trace.Play.{Play};
+ghost use Rattle.hand_canon.specs.declared.trace.Play.{Play};
 ghost use Rattle.ohh_members.specs.declared.dialect.Dialect.{Dialect};
 ghost use Rattle.ohh_writing.specs.Lines.{hand_text};
 

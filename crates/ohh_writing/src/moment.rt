@@ -4,7 +4,7 @@ ghost use Rattle.ohh_writing.specs.Moment.{by_digits, fraction_text, time_text};
 ghost use Rattle.ohh_writing.specs.Moment as moments;
 
 use card_set::{Memory, TryPush, TryWrite};
-use hand_records::{CivilDate, Clock, Moment, Notes};
+use hand_canon::{CivilDate, Clock, Moment, Notes};
 use std::alloc::Global;
 
 /// The moment of the notes, if it is complete and its zone is UTC.

@@ -2,7 +2,7 @@
 ghost use Rattle.std.specs.Prelude.{◌≡◌, codes, string_bytes, IfOk, OnOk};
 ghost use Rattle.serde_json.specs.Data.{put, string};
 ghost use Rattle.serde_json.specs.View.{view, members_view};
-ghost use Rattle.hand_records.specs.AllowedNotes.{name_written};
+ghost use Rattle.hand_canon.specs.AllowedNotes.{name_written};
 ghost use Rattle.ohh_writing.specs.Tree.{player_tree, players};
 
 use crate::members::{put_number, put_value};
@@ -10,7 +10,7 @@ use crate::posts::amount_at;
 use crate::seating::number_among;
 use card_set::{Memory, TryPush, string_from, try_format};
 use chip_ledger::{Seat, SeatRow};
-use hand_records::Notes;
+use hand_canon::Notes;
 use serde_json::{Map, Value};
 use std::alloc::Global;
 

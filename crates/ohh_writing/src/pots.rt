@@ -8,7 +8,7 @@ use crate::members::{put_number, put_value};
 use crate::posts::amount_at;
 use card_set::{Memory, TryPush};
 use chip_ledger::{Pot, Seat, SeatRow};
-use hand_records::Trace;
+use hand_canon::Trace;
 use serde_json::{Map, Value};
 use std::alloc::Global;
 

@@ -12,7 +12,7 @@ use crate::posts::push_posts;
 use crate::shows::{push_deals, push_showings};
 use crate::tidy_trace::TidyTrace;
 use card_set::{Memory, SlotRow, TryPush};
-use hand_records::Trace;
+use hand_canon::Trace;
 use ohh_members::Dialect;
 use ohh_members::street::StreetName;
 use std::alloc::Global;

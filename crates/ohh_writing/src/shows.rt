@@ -2,7 +2,7 @@
 //! end.
 ghost use Rattle.std.specs.Prelude.{◌≡◌, ◌++◌, Some, map, OnOk};
 ghost use Rattle.card_set.specs.Row.{slots_of};
-ghost use Rattle.hand_records.specs.TraceRows.{core_said};
+ghost use Rattle.hand_canon.specs.TraceRows.{core_said};
 ghost use Rattle.ohh_writing.specs.Actions.{action_said, alone, deal_written, deals, showing, showings, with_cards};
 ghost use Rattle.ohh_members.specs.declared.words.Word.TheVariants as words;
 

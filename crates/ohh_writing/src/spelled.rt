@@ -3,14 +3,14 @@ ghost use Rattle.std.specs.Prelude.{◌≡◌, ◌≤◌, length};
 ghost use Rattle.first_fault.specs.declared.limits.TheConstants.{MOST_HANDS};
 ghost use Rattle.ohh_writing.specs.Spelled.{first_unspelled, kept_facts, note_facts, trace_facts, unspelled};
 ghost use Rattle.ohh_writing.specs.Spelled as spelled;
-ghost use Rattle.hand_records.specs.WriteRefusals.{first_refusal};
+ghost use Rattle.hand_canon.specs.WriteRefusals.{first_refusal};
 
 use crate::games::is_spelled_game;
 use crate::moment::moment_of;
 use crate::seating::numbers_spelled;
 use crate::setup::{has_spelled_antes, has_spelled_blinds, has_spelled_sizes};
 use chip_ledger::SeatRow;
-use hand_records::{Keep, NoteName, Notes, Play, Trace, Unspelled, WriteRefusal};
+use hand_canon::{Keep, NoteName, Notes, Play, Trace, Unspelled, WriteRefusal};
 
 /// The refusal of the first play that the format cannot write. The first hand has the number 1.
 pub fn find_refusal(plays: &[Play], keep: Keep) -> Option<WriteRefusal>

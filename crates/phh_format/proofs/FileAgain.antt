@@ -8,12 +8,12 @@ use Rattle.std.proofs.lemmas.Slice.Eq.{bytes_eq-Decides}
 use Rattle.std.proofs.lemmas.Str.{is_utf8-from_IsUtf8}
 use Rattle.first_fault.specs.Reading.{thread_from}
 use Rattle.first_fault.specs.declared.limits.TheConstants.{MOST_FILE_MOVES, MOST_HANDS}
-use Rattle.hand_records.specs.declared.trace.Play.{Play}
+use Rattle.hand_canon.specs.declared.trace.Play.{Play}
 use Rattle.phh_reading.specs.Events.{counts_after}
 use Rattle.phh_reading.specs.Reading.{document_of, hands_of, numbered_hand, reading}
-use Rattle.phh_writing.specs.Document.{Spells, document, hand_table, numbered_hands}
-use Rattle.phh_writing.specs.HandFields.{hand_fields, script_of}
-use Rattle.phh_writing.proofs.Puts.{field_at, get_member-table_of}
+use Rattle.phh_format.specs.Document.{Spells, document, hand_table, numbered_hands}
+use Rattle.phh_format.specs.HandFields.{hand_fields, script_of}
+use Rattle.phh_format.proofs.Puts.{field_at, get_member-table_of}
 use Rattle.phh_format.specs.Again.{hand_again, hands_again}
 use Rattle.phh_format.proofs.EventsAgain.{HaveRoom, counts_with, one_more}
 use Rattle.card_set.proofs.Counting.{count_by-cons}

@@ -7,7 +7,7 @@ use Rattle.toml.specs.Data.{Data, string, integer, Members}
 use Rattle.chip_ledger.specs.declared.seat_row.TheConstants.{MOST_AMOUNT}
 use Rattle.play_event.specs.declared.setup.Setup.{Setup}
 use Rattle.first_fault.specs.Reading.{◌>>=◌, read_if}
-use Rattle.hand_records.specs.declared.trace.Play.{Play}
+use Rattle.hand_canon.specs.declared.trace.Play.{Play}
 use Rattle.phh_actions.specs.Written.{event_text}
 use Rattle.phh_reading.specs.declared.field_fault.FieldFault.{FieldFault}
 use Rattle.phh_reading.specs.declared.field_fault.FieldKey.{FieldKey}
@@ -17,9 +17,9 @@ use Rattle.phh_reading.specs.Rows.{rakes_from, rakes_said, row_said}
 use Rattle.phh_reading.specs.NoteFields.{PlainSeating, day_said, labels_said, notes_said, seating_said}
 use Rattle.phh_reading.specs.Events.{counts_after}
 use Rattle.phh_reading.specs.Hand.{hand_said, rakes_at}
-use Rattle.phh_writing.specs.Document.{hand_table}
-use Rattle.phh_writing.specs.HandFields.{hand_field, hand_fields, label, local_time, names_field, number_field, numbers, rakes_field, script_of}
-use Rattle.phh_writing.proofs.Puts.{field_at}
+use Rattle.phh_format.specs.Document.{hand_table}
+use Rattle.phh_format.specs.HandFields.{hand_field, hand_fields, label, local_time, names_field, number_field, numbers, rakes_field, script_of}
+use Rattle.phh_format.proofs.Puts.{field_at}
 use Rattle.phh_reading.proofs.Zeros.{with_zeros}
 use Rattle.phh_format.proofs.Readable.{IsReadable}
 use Rattle.phh_format.specs.Again.{hand_again}
@@ -31,9 +31,9 @@ use Rattle.phh_format.proofs.EventsAgain.{HaveRoom, counts_with, events_again}
 use Rattle.card_set.proofs.Entries.{cut_zeros, each_taken}
 use Rattle.card_set.proofs.Any.{zero_from_none_taken}
 use Rattle.chip_ledger.specs.SeatRow.{amounts_in}
-use Rattle.hand_records.specs.NoteTable.{texts_of}
-use Rattle.hand_records.specs.SaidNotes.{SaidNotes, hand_name_noted, said_notes}
-use Rattle.hand_records.specs.AllowedNotes.{IsWithin}
+use Rattle.hand_canon.specs.NoteTable.{texts_of}
+use Rattle.hand_canon.specs.SaidNotes.{SaidNotes, hand_name_noted, said_notes}
+use Rattle.hand_canon.specs.AllowedNotes.{IsWithin}
 
 all_zero : (all : List ℕ) → length all ≡ 11 → ((k : ℕ) → get_or all k 0 ≡ 0) → all ≡ replicate 11 0
 all_zero all eleven none =

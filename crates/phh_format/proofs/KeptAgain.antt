@@ -1,9 +1,9 @@
 -- All notes are read back.
 use Rattle.std.proofs.Common.{◌≡◌, ℕ, ap, ◌∙◌}
-use Rattle.hand_records.specs.declared.notes.Notes.{Notes}
-use Rattle.hand_records.proofs.NoteLaws.{label_twice, names_along, notes_same, numbers_again}
+use Rattle.hand_canon.specs.declared.notes.Notes.{Notes}
+use Rattle.hand_canon.proofs.NoteLaws.{label_twice, names_along, notes_same, numbers_again}
 use Rattle.phh_format.specs.KeptNotes.{kept_in_phh}
-use Rattle.hand_records.specs.SaidNotes.{KeepsNotes, SaidNotes, hand_name_noted, name_said, plain_notes, said_notes}
+use Rattle.hand_canon.specs.SaidNotes.{KeepsNotes, SaidNotes, hand_name_noted, name_said, plain_notes, said_notes}
 
 -- notes that are read back are those that were written
 pub keeps_said : (place count : ℕ) (notes again : Notes) → plain_notes count again ≡ said_notes place count notes

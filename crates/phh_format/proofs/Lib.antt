@@ -1,3 +1,12 @@
+-- Laws of what is written, and of what is read back.
+
+-- Laws of what is written.
+pub mod Bounds
+pub mod CanonWords
+pub mod Puts
+pub mod Shape
+pub mod Spelt
+-- Laws of what is read back.
 pub mod Readable
 pub mod RowsAgain
 pub mod SetupAgain

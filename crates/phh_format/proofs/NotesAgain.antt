@@ -9,17 +9,17 @@ use Rattle.toml.specs.Data.{string, integer}
 use Rattle.first_fault.specs.Digits.{are_digits, number_of}
 use Rattle.first_fault.specs.Reading.{read_if, or_none}
 use Rattle.first_fault.specs.declared.limits.TheConstants.{MOST_TEXT_BYTES}
-use Rattle.hand_records.specs.declared.notes.Clock.{Clock}
-use Rattle.hand_records.specs.AllowedNotes.{IsNoteText, IsTime, IsWithin, days_in_month}
+use Rattle.hand_canon.specs.declared.notes.Clock.{Clock}
+use Rattle.hand_canon.specs.AllowedNotes.{IsNoteText, IsTime, IsWithin, days_in_month}
 use Rattle.phh_reading.specs.declared.field_fault.FieldLocation.{FieldLocation}
 use Rattle.phh_reading.specs.Fields.{number_said, text_said}
 use Rattle.phh_reading.specs.NoteFields.{clock_said, is_in_calendar, label_said, note_said, or_zero, text_note_said, time_said}
-use Rattle.phh_writing.specs.HandFields.{hand_field, label, local_time, number_field, number_written}
+use Rattle.phh_format.specs.HandFields.{hand_field, label, local_time, number_field, number_written}
 use Rattle.card_set.proofs.Tests.{implied}
 use Rattle.card_set.proofs.Digits.{all_digits, own_digits}
 use Rattle.card_set.proofs.Options.{from_none_some}
-use Rattle.hand_records.specs.SaidNotes.{hand_name_noted}
-use Rattle.hand_records.proofs.NoteTexts.{not_empty, noted_again}
+use Rattle.hand_canon.specs.SaidNotes.{hand_name_noted}
+use Rattle.hand_canon.proofs.NoteTexts.{not_empty, noted_again}
 
 pub note_again : (default text : List ℕ) (place : FieldLocation) → IsNoteText text → bytes_eq text default ≡ false → note_said default place text ≡ Ok (Some text)
 unfolding note_said

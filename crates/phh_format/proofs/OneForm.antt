@@ -12,31 +12,31 @@ use Rattle.chip_ledger.specs.SeatsSaid.{default_name}
 use Rattle.first_fault.specs.declared.limits.TheConstants.{MOST_FILE_MOVES, MOST_HANDS}
 use Rattle.hand_canon.proofs.SamePlay.{setup_same}
 use Rattle.hand_canon.specs.Sound.{IsSound}
-use Rattle.hand_records.specs.SoundRecord.{script_said}
-use Rattle.hand_records.specs.AllowedNotes.{name_written}
-use Rattle.hand_records.specs.declared.notes.Notes.{Notes}
-use Rattle.hand_records.specs.declared.trace.Play.{Play}
-use Rattle.hand_records.specs.declared.trace.Trace.{Trace}
-use Rattle.hand_records.specs.declared.writing.Unspelled.TheVariants as unspellables
+use Rattle.hand_canon.specs.SoundRecord.{script_said}
+use Rattle.hand_canon.specs.AllowedNotes.{name_written}
+use Rattle.hand_canon.specs.declared.notes.Notes.{Notes}
+use Rattle.hand_canon.specs.declared.trace.Play.{Play}
+use Rattle.hand_canon.specs.declared.trace.Trace.{Trace}
+use Rattle.hand_canon.specs.declared.writing.Unspelled.TheVariants as unspellables
 use Rattle.card_set.proofs.NumbersOfRange.{map_agree}
 use Rattle.phh_format.proofs.SoundPlays.{same_script, sound_again}
 use Rattle.phh_format.specs.Again.{hand_again, hands_again}
 use Rattle.phh_reading.specs.Reading.{reading}
-use Rattle.phh_writing.specs.Document.{document, hand_table, numbered_hands, Spells}
-use Rattle.phh_writing.specs.HandFields.{hand_field, label, names_field, note_fields, numbers, script_of, setup_fields, trace_fields}
-use Rattle.phh_writing.specs.Members.{Field, table_of}
-use Rattle.phh_writing.specs.Spelled as facts
+use Rattle.phh_format.specs.Document.{document, hand_table, numbered_hands, Spells}
+use Rattle.phh_format.specs.HandFields.{hand_field, label, names_field, note_fields, numbers, script_of, setup_fields, trace_fields}
+use Rattle.phh_format.specs.Members.{Field, table_of}
+use Rattle.phh_format.specs.Spelled as facts
 use Rattle.play_event.specs.Said.{Numbered}
-use Rattle.hand_records.proofs.NoteLaws.{AreUnusual, at_seat, taken_alike, tests_alike, unusual_said}
+use Rattle.hand_canon.proofs.NoteLaws.{AreUnusual, at_seat, taken_alike, tests_alike, unusual_said}
 use Rattle.trace_laws.proofs.SameWords.{one_trace}
 use Rattle.phh_format.specs.KeptNotes.{kept_in_phh}
-use Rattle.hand_records.specs.SameHands.{AllPaired, AreSameHand, AreSameHands}
+use Rattle.hand_canon.specs.SameHands.{AllPaired, AreSameHand, AreSameHands}
 use Rattle.phh_format.specs.SameTables.{AreSameTable}
 use Rattle.hand_canon.proofs.UnusualNumbers.{unusual}
-use Rattle.hand_records.specs.Moves.{moves_played}
+use Rattle.hand_canon.specs.Moves.{moves_played}
 use Rattle.phh_format.proofs.ReadBack.{said_from}
-use Rattle.hand_records.specs.PlainHands.{PlainHand}
-use Rattle.hand_records.specs.SaidNotes.{SaidNotes, hand_name_noted, name_said, notes_of, said_notes}
+use Rattle.hand_canon.specs.PlainHands.{PlainHand}
+use Rattle.hand_canon.specs.SaidNotes.{SaidNotes, hand_name_noted, name_said, notes_of, said_notes}
 
 -- ---- what is written of notes
 

@@ -13,10 +13,10 @@ use Rattle.std.proofs.lemmas.Map.Text.{is_eq-slice_cmp}
 use Rattle.std.proofs.lemmas.Slice.Eq.{bytes_eq-Decides}
 use Rattle.std.proofs.lemmas.List.{append-nil}
 use Rattle.toml.specs.Data.{Data, Members, no_members, member, table}
-use Rattle.hand_records.specs.declared.trace.Play.{Play}
+use Rattle.hand_canon.specs.declared.trace.Play.{Play}
 use Rattle.phh_reading.specs.Order.{Entry, is_multi_hand, in_order, is_table, key_cmp, placed, placed_all, tables_among}
-use Rattle.phh_writing.specs.Members.{put, table_of}
-use Rattle.phh_writing.specs.Document.{hand_table, numbered_hands}
+use Rattle.phh_format.specs.Members.{put, table_of}
+use Rattle.phh_format.specs.Document.{hand_table, numbered_hands}
 use Rattle.card_set.proofs.Digits.{number_said}
 use Rattle.card_set.proofs.Orderings.{less_not_equal}
 use Rattle.first_fault.proofs.DecimalDigits.{decimal_digits}

@@ -19,12 +19,12 @@ use Rattle.play_event.specs.TraceCore.{TraceCore, core_after}
 use Rattle.canon_laws.specs.OtherRules.{SuitsRules}
 use Rattle.canon_laws.proofs.SuitedMoves.{played_by}
 use Rattle.first_fault.specs.declared.limits.TheConstants.{MOST_FILE_MOVES, MOST_HANDS}
-use Rattle.hand_records.specs.SoundRecord.{script_said}
-use Rattle.hand_records.specs.TraceRows.{core_said}
-use Rattle.hand_records.specs.declared.record.Record.{Record}
-use Rattle.hand_records.specs.declared.record.Stated.{Stated}
-use Rattle.hand_records.specs.declared.trace.Play.{Play}
-use Rattle.hand_records.specs.declared.trace.Trace.{Trace}
+use Rattle.hand_canon.specs.SoundRecord.{script_said}
+use Rattle.hand_canon.specs.TraceRows.{core_said}
+use Rattle.hand_canon.specs.declared.record.Record.{Record}
+use Rattle.hand_canon.specs.declared.record.Stated.{Stated}
+use Rattle.hand_canon.specs.declared.trace.Play.{Play}
+use Rattle.hand_canon.specs.declared.trace.Trace.{Trace}
 use Rattle.hand_canon.specs.Agreement.{finish_compared, first_difference, is_different}
 use Rattle.hand_canon.specs.LegalPlay.{IsTraceOfLegal}
 use Rattle.hand_canon.specs.LegalHand.{IsLegalHand}
@@ -33,21 +33,21 @@ use Rattle.hand_canon.specs.WholeTrace.{HasShares, IsTraceOf}
 use Rattle.trace_laws.proofs.SameShares.{legal_hand, same_trace}
 use Rattle.phh_reading.specs.Reading.{reading}
 use Rattle.hand_canon.proofs.SamePlay.{same_setup, same_stated}
-use Rattle.phh_writing.specs.Document.{Spells}
-use Rattle.phh_writing.specs.HandFields.{script_of}
-use Rattle.phh_writing.specs.Spelled.{unspelled}
+use Rattle.phh_format.specs.Document.{Spells}
+use Rattle.phh_format.specs.HandFields.{script_of}
+use Rattle.phh_format.specs.Spelled.{unspelled}
 use Rattle.phh_format.specs.Again.{hand_again, hands_again, numbered_from}
 use Rattle.hand_canon.specs.ReadAgain.{AreAgain, IsAgain}
 use Rattle.phh_format.specs.KeptNotes.{kept_in_phh}
 use Rattle.phh_format.proofs.KeptAgain.{keeps_said}
 use Rattle.phh_format.proofs.RowsAgain.{amount_count}
 use Rattle.phh_format.proofs.SoundPlays.{same_script, sound_again}
-use Rattle.hand_records.specs.Moves.{moves_played}
-use Rattle.hand_records.proofs.Refusals.{none_refused}
+use Rattle.hand_canon.specs.Moves.{moves_played}
+use Rattle.hand_canon.proofs.Refusals.{none_refused}
 use Rattle.play_event.proofs.ScriptLaws.{said_numbered}
-use Rattle.hand_records.specs.WriteRefusals.{refusal_from, first_refusal}
-use Rattle.hand_records.specs.PlainHands.{PlainHand, PlainSetup, PlainStated, plain}
-use Rattle.hand_records.specs.SaidNotes.{KeepsNotes, SaidNotes, notes_of, plain_notes}
+use Rattle.hand_canon.specs.WriteRefusals.{refusal_from, first_refusal}
+use Rattle.hand_canon.specs.PlainHands.{PlainHand, PlainSetup, PlainStated, plain}
+use Rattle.hand_canon.specs.SaidNotes.{KeepsNotes, SaidNotes, notes_of, plain_notes}
 
 -- a play that the format can write has no closed raise
 spelled_open : (play : Play) → unspelled play ≡ None → list_any (λ move. move.closed) (core_said play.trace).moves ≡ false

@@ -4,9 +4,9 @@ use Rattle.std.specs.List.{AllByRecursion}
 use Rattle.play_event.specs.PlayedScript.{IsWithinLimits, is_move}
 use Rattle.chip_ledger.specs.RakeRow.{rake_of}
 use Rattle.play_event.specs.ValidSetup.{IsValid}
-use Rattle.hand_records.specs.declared.trace.Play.{Play}
-use Rattle.hand_records.specs.AllowedNotes.{AreAllowed}
-use Rattle.phh_writing.specs.HandFields.{script_of}
+use Rattle.hand_canon.specs.declared.trace.Play.{Play}
+use Rattle.hand_canon.specs.AllowedNotes.{AreAllowed}
+use Rattle.phh_format.specs.HandFields.{script_of}
 use Rattle.play_event.specs.Ranges.{IsInRange}
 
 -- Its setup is valid, an action can express each event of its canonical script, which is within the

@@ -12,9 +12,9 @@ use Rattle.phh_reading.specs.declared.field_fault.FieldKey.{FieldKey}
 use Rattle.phh_reading.specs.declared.field_fault.FieldLocation.{FieldLocation}
 use Rattle.phh_reading.specs.Fields.{amount_said, at_item, items_said, list_said, listed}
 use Rattle.phh_reading.specs.Rows.{amounts_said, row_said}
-use Rattle.phh_writing.specs.HandFields.{numbers}
+use Rattle.phh_format.specs.HandFields.{numbers}
 use Rattle.card_set.proofs.Entries.{each_taken}
-use Rattle.hand_records.specs.AllowedNotes.{IsWithin}
+use Rattle.hand_canon.specs.AllowedNotes.{IsWithin}
 
 -- the items of a list, in order
 pub listed_again : (all : List Data) → listed (items_of all) ≡ all

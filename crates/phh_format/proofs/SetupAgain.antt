@@ -11,21 +11,21 @@ use Rattle.play_event.specs.Games.{game_of}
 use Rattle.play_event.specs.Streets.{is_stud, limit_of}
 use Rattle.play_event.specs.ValidSetup.{IsSizeWhere, IsValid, is_fixed}
 use Rattle.first_fault.specs.Reading.{◌>>=◌, each_from}
-use Rattle.hand_records.specs.declared.trace.Play.{Play}
+use Rattle.hand_canon.specs.declared.trace.Play.{Play}
 use Rattle.phh_reading.specs.declared.field_fault.FieldKey.{FieldKey}
 use Rattle.phh_reading.specs.declared.field_fault.FieldKey.TheVariants as keys
 use Rattle.phh_reading.specs.Fields.{at_item, at_key, field, flag_said, key_text, required, text_said}
 use Rattle.phh_reading.specs.Rows.{ante_said, antes_said, heads_up_swapped, stacks_said}
 use Rattle.phh_reading.specs.SetupFields.{are_dead, blinds_said, setup_said, size_said, sizes_said, trimming_said, variant_said}
-use Rattle.phh_writing.specs.Document.{hand_table}
-use Rattle.phh_writing.specs.HandFields.{blinds_written, hand_fields, numbers, size_field}
-use Rattle.phh_writing.proofs.Puts.{field_at, get_member-table_of, or_later}
+use Rattle.phh_format.specs.Document.{hand_table}
+use Rattle.phh_format.specs.HandFields.{blinds_written, hand_fields, numbers, size_field}
+use Rattle.phh_format.proofs.Puts.{field_at, get_member-table_of, or_later}
 use Rattle.phh_format.proofs.RowsAgain.{amount_again, amount_count, amounts_again, each_amount, items_again, list_again, number_data, row_again}
 use Rattle.phh_reading.proofs.Games.{own_code}
 use Rattle.card_set.proofs.Entries.{less_taken, taken_zeros}
 use Rattle.card_set.proofs.NumbersOfRange.{any_taken}
-use Rattle.hand_records.specs.AllowedNotes.{IsWithin}
-use Rattle.hand_records.specs.PlainHands.{plain_setup}
+use Rattle.hand_canon.specs.AllowedNotes.{IsWithin}
+use Rattle.hand_canon.specs.PlainHands.{plain_setup}
 
 -- an ante that is no more than the stack stays as it is
 ante_again : (stack ante n : ℕ) → ante ≤ stack → ante ≤ MOST_CHIPS → ante_said stack (at_item keys.Antes n) (integer (pos ante)) ≡ Ok ante

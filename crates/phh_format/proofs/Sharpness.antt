@@ -17,11 +17,11 @@ use Rattle.card_set.proofs.Tests.{false_true}
 use Rattle.first_fault.specs.Reading.{◌>>=◌, read_if, thread_from}
 use Rattle.play_event.specs.HistoryRules.{history_rules}
 use Rattle.play_event.specs.Played.{move_said}
-use Rattle.hand_records.specs.SoundRecord.{script_said}
-use Rattle.hand_records.specs.declared.record.Record.{Record}
-use Rattle.hand_records.specs.declared.trace.Play.{Play}
-use Rattle.hand_records.specs.declared.writing.Unspelled.{Unspelled}
-use Rattle.hand_records.specs.declared.writing.Unspelled.TheVariants as facts
+use Rattle.hand_canon.specs.SoundRecord.{script_said}
+use Rattle.hand_canon.specs.declared.record.Record.{Record}
+use Rattle.hand_canon.specs.declared.trace.Play.{Play}
+use Rattle.hand_canon.specs.declared.writing.Unspelled.{Unspelled}
+use Rattle.hand_canon.specs.declared.writing.Unspelled.TheVariants as facts
 use Rattle.hand_canon.specs.LegalPlay.{IsTraceOfLegal}
 use Rattle.canon_laws.proofs.SuitedRules.{suits_own}
 use Rattle.phh_reading.specs.Hand.{finish_stated, hand_said, rakes_at}
@@ -32,11 +32,11 @@ use Rattle.phh_reading.specs.declared.field_fault.FieldFaultKind.{FieldFaultKind
 use Rattle.phh_reading.specs.declared.field_fault.FieldFaultKind.TheVariants as whats
 use Rattle.first_fault.specs.declared.limits.Quantity.TheVariants as quantities
 use Rattle.first_fault.specs.declared.limits.TheConstants.{MOST_HANDS}
-use Rattle.phh_writing.specs.Spelled.{unspelled}
+use Rattle.phh_format.specs.Spelled.{unspelled}
 use Rattle.hand_canon.specs.Sharp.{IsOther}
 use Rattle.first_fault.proofs.Thread.{bound}
-use Rattle.hand_records.specs.PlainHands.{PlainHand, PlainSetup, plain}
-use Rattle.hand_records.specs.SaidNotes.{SaidNotes}
+use Rattle.hand_canon.specs.PlainHands.{PlainHand, PlainSetup, plain}
+use Rattle.hand_canon.specs.SaidNotes.{SaidNotes}
 
 -- a hand under the rules of hand histories
 abbrev IsRuled : PlainHand → Type 0

@@ -15,20 +15,20 @@ use Rattle.play_event.specs.CanonScript.{canon_of, canonical_script}
 use Rattle.play_event.specs.PlayedScript.{IsWithinLimits, is_move}
 use Rattle.canon_laws.proofs.EventRanges.{events_in_range}
 use Rattle.canon_laws.proofs.SameMoves.{canon_within, same_moves}
-use Rattle.hand_records.specs.AllowedNotes.{AreAllowed}
+use Rattle.hand_canon.specs.AllowedNotes.{AreAllowed}
 use Rattle.hand_canon.specs.Sound.{IsSound}
-use Rattle.hand_records.specs.SoundRecord.{script_said}
-use Rattle.hand_records.specs.TraceRows.{core_said}
+use Rattle.hand_canon.specs.SoundRecord.{script_said}
+use Rattle.hand_canon.specs.TraceRows.{core_said}
 use Rattle.first_fault.specs.declared.limits.TheConstants.{MOST_FILE_MOVES, MOST_HANDS}
-use Rattle.hand_records.specs.declared.trace.Play.{Play}
+use Rattle.hand_canon.specs.declared.trace.Play.{Play}
 use Rattle.trace_laws.proofs.ShareBounds.{shares_and_rakes}
 use Rattle.phh_reading.specs.Reading.{reading}
-use Rattle.phh_writing.specs.Document.{Spells}
-use Rattle.phh_writing.specs.HandFields.{script_of}
+use Rattle.phh_format.specs.Document.{Spells}
+use Rattle.phh_format.specs.HandFields.{script_of}
 use Rattle.phh_format.specs.Again.{hands_again}
 use Rattle.phh_format.proofs.FileAgain.{plays_again}
 use Rattle.phh_format.proofs.Readable.{IsReadable, moves_written}
-use Rattle.hand_records.specs.Moves.{moves_played}
+use Rattle.hand_canon.specs.Moves.{moves_played}
 use Rattle.play_event.specs.Ranges.{IsInRange}
 use Rattle.chip_ledger.proofs.PlainPots.{no_chips_past}
 

@@ -3,13 +3,13 @@
 use Rattle.std.specs.Prelude.{ℕ, ◌+◌, List, [], ◌∷◌, Some}
 use Rattle.play_event.specs.HistoryRules.{history_rules}
 use Rattle.play_event.specs.Said.{Numbered, Said}
-use Rattle.hand_records.specs.declared.trace.Play.{Play}
+use Rattle.hand_canon.specs.declared.trace.Play.{Play}
 use Rattle.phh_reading.specs.Hand.{finish_stated}
-use Rattle.phh_writing.specs.HandFields.{script_of}
+use Rattle.phh_format.specs.HandFields.{script_of}
 use Rattle.chip_ledger.specs.SeatRow.{amounts_in}
 use Rattle.first_fault.specs.Numbers.{saturated}
-use Rattle.hand_records.specs.PlainHands.{PlainHand, plain_setup}
-use Rattle.hand_records.specs.SaidNotes.{notes_of}
+use Rattle.hand_canon.specs.PlainHands.{PlainHand, plain_setup}
+use Rattle.hand_canon.specs.SaidNotes.{notes_of}
 
 -- events with the numbers of their actions; the first has this number
 abbrev pub numbered_from : ℕ → List Said → List Numbered

@@ -1,5 +1,5 @@
 -- Which notes the format keeps: all of them.
-use Rattle.hand_records.specs.SaidNotes.{SaidNotes}
+use Rattle.hand_canon.specs.SaidNotes.{SaidNotes}
 
 -- the notes that the format can write
 abbrev pub kept_in_phh : SaidNotes → SaidNotes

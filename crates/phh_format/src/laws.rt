@@ -2,21 +2,21 @@
 ghost use Rattle.std.specs.Prelude.{◌≡◌, ℕ, ◌≤◌, List, length, map, sum_by, None, Ok, Some};
 ghost use Rattle.std.specs.List.{AllByRecursion};
 ghost use Rattle.first_fault.specs.declared.limits.TheConstants.{MOST_FILE_MOVES, MOST_HANDS};
-ghost use Rattle.hand_records.specs.declared.record.Record.{Record};
-ghost use Rattle.hand_records.specs.declared.trace.Play.{Play};
-ghost use Rattle.hand_records.specs.declared.writing.Unspelled.{Unspelled};
+ghost use Rattle.hand_canon.specs.declared.record.Record.{Record};
+ghost use Rattle.hand_canon.specs.declared.trace.Play.{Play};
+ghost use Rattle.hand_canon.specs.declared.writing.Unspelled.{Unspelled};
 ghost use Rattle.hand_canon.specs.Sound.{IsSound};
 ghost use Rattle.phh_reading.specs.Reading.{reading};
-ghost use Rattle.phh_writing.specs.Document.{Spells};
-ghost use Rattle.phh_writing.specs.Spelled.{unspelled};
+ghost use Rattle.phh_format.specs.Document.{Spells};
+ghost use Rattle.phh_format.specs.Spelled.{unspelled};
 ghost use Rattle.phh_format.specs.Again.{hands_again};
-ghost use Rattle.hand_records.specs.Moves.{moves_played};
+ghost use Rattle.hand_canon.specs.Moves.{moves_played};
 ghost use Rattle.hand_canon.specs.ReadAgain.{AreAgain};
-ghost use Rattle.hand_records.specs.SaidNotes.{KeepsNotes};
+ghost use Rattle.hand_canon.specs.SaidNotes.{KeepsNotes};
 ghost use Rattle.phh_format.specs.KeptNotes.{kept_in_phh};
 ghost use Rattle.hand_canon.specs.Sharp.{IsOther};
-ghost use Rattle.hand_records.specs.WriteRefusals.{first_refusal};
-ghost use Rattle.hand_records.specs.PlainHands.{plain};
+ghost use Rattle.hand_canon.specs.WriteRefusals.{first_refusal};
+ghost use Rattle.hand_canon.specs.PlainHands.{plain};
 
 /// Take bytes that spell sound plays, where plays and moves are within the limits of a file. They
 /// read as the hands of these plays: with their setups, rakes and finishing stacks, their canonical

@@ -2,8 +2,15 @@
 //! their document, and so as the same hands.
 #![tactic(auto)]
 
+mod document;
 mod laws;
+mod members;
+mod notes;
+mod played;
+mod setup;
+mod spelled;
 
+pub use document::write;
 pub use laws::{law_of_reading_again, law_of_reading_back, law_of_sharpness};
 pub use phh_reading::{PhhFault, read};
-pub use phh_writing::{spells, write};
+pub use spelled::spells;

@@ -10,7 +10,7 @@ use Rattle.std.proofs.lemmas.Map.Text.{is_eq-slice_cmp}
 use Rattle.std.proofs.lemmas.Slice.Eq.{bytes_eq-Decides}
 use Rattle.toml.specs.Data.{Data, table, Members, no_members, member, same_key}
 use Rattle.first_fault.specs.Digits.{are_digits}
-use Rattle.phh_tables.specs.Tables.{Entry, AreApart, insert_member, document_after, document_from}
+use Rattle.phh_reading.specs.Tables.{Entry, AreApart, insert_member, document_after, document_from}
 use Rattle.phh_reading.specs.declared.field_fault.FieldKey.TheVariants as keys
 use Rattle.phh_reading.specs.Fields.{field, key_text}
 use Rattle.phh_reading.specs.Order.{is_multi_hand, is_table, in_order, key_cmp, placed, placed_all, tables_among}

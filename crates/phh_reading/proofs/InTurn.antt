@@ -11,9 +11,9 @@ use Rattle.toml.specs.Parse.{parse_document, skip_bom}
 use Rattle.first_fault.specs.Digits.{are_digits, number_of}
 use Rattle.first_fault.specs.Reading.{◌>>=◌, thread_from}
 use Rattle.first_fault.proofs.Thread.{behind}
-use Rattle.hand_records.specs.PlainHands.{PlainHand}
-use Rattle.phh_tables.specs.Tables.{Entry, IsCut, IsTable}
-use Rattle.phh_tables.proofs.Cutting.{cut_document}
+use Rattle.hand_canon.specs.PlainHands.{PlainHand}
+use Rattle.phh_reading.specs.Tables.{Entry, IsCut, IsTable}
+use Rattle.phh_reading.proofs.Cutting.{cut_document}
 use Rattle.phh_reading.specs.declared.fault.PhhHandFault.{PhhHandFault}
 use Rattle.phh_reading.specs.NextTable.{IsNextHand}
 use Rattle.phh_reading.specs.Reading.{document_said, hands_said, numbered_hand}

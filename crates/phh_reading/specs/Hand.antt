@@ -2,7 +2,7 @@
 use Rattle.std.specs.Prelude.{ℕ, List, length, replicate, Option, Some, None, Result, Ok}
 use Rattle.toml.specs.Data.{Members}
 use Rattle.chip_ledger.specs.declared.seat_row.TheConstants.{MOST_AMOUNT}
-use Rattle.hand_records.specs.PlainHands.{PlainHand, PlainStated}
+use Rattle.hand_canon.specs.PlainHands.{PlainHand, PlainStated}
 use Rattle.play_event.specs.HistoryRules.{history_rules}
 use Rattle.first_fault.specs.Reading.{◌>>=◌, read_if}
 use Rattle.phh_reading.specs.declared.field_fault.FieldKey.TheVariants as keys

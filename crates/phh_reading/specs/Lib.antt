@@ -1,5 +1,8 @@
--- What bytes in the Poker Hand History format say, field by field.
+-- What bytes in the Poker Hand History format say, table by table and field by field.
 
+-- A text that is cut into tables.
+pub mod Tables
+pub mod Worked
 -- The fields of a hand in the Poker Hand History format.
 pub mod Fields
 pub mod Rows

@@ -2,8 +2,8 @@
 use Rattle.std.specs.Prelude.{◌≡◌, ℕ, ◌≤◌, List, [], ◌∷◌, Ok}
 use Rattle.std.specs.Str.Parse.{digits_value}
 use Rattle.toml.specs.Data.{Members}
-use Rattle.hand_records.specs.PlainHands.{PlainHand}
-use Rattle.phh_tables.specs.Tables.{IsFirstTable}
+use Rattle.hand_canon.specs.PlainHands.{PlainHand}
+use Rattle.phh_reading.specs.Tables.{IsFirstTable}
 use Rattle.phh_reading.specs.Reading.{numbered_hand}
 
 -- A text begins with a table under this number, which is at least the least one. The table is this

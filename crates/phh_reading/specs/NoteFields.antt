@@ -7,9 +7,9 @@ use Rattle.toml_datetime.specs.declared.datetime.Date.{Date}
 use Rattle.toml_datetime.specs.declared.datetime.Offset.{Offset}
 use Rattle.toml_datetime.specs.declared.datetime.Time.{Time}
 use Rattle.first_fault.specs.declared.limits.Quantity.TheVariants as quantities
-use Rattle.hand_records.specs.declared.notes.Clock.{Clock}
-use Rattle.hand_records.specs.AllowedNotes.{IsName, days_in_month, noted_or, non_default_seats}
-use Rattle.hand_records.specs.SaidNotes.{SaidNotes}
+use Rattle.hand_canon.specs.declared.notes.Clock.{Clock}
+use Rattle.hand_canon.specs.AllowedNotes.{IsName, days_in_month, noted_or, non_default_seats}
+use Rattle.hand_canon.specs.SaidNotes.{SaidNotes}
 use Rattle.first_fault.specs.Reading.{◌>>=◌, each_from, read_if, or_none}
 use Rattle.phh_reading.specs.declared.field_fault.FieldKey.TheVariants as keys
 use Rattle.phh_reading.specs.declared.field_fault.FieldFaultKind.TheVariants as whats

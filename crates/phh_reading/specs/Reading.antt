@@ -5,7 +5,7 @@ use Rattle.toml.specs.Data.{Members}
 use Rattle.toml.specs.Parse.{parse_document}
 use Rattle.first_fault.specs.declared.limits.Quantity.TheVariants as quantities
 use Rattle.first_fault.specs.declared.limits.TheConstants.{MOST_HANDS}
-use Rattle.hand_records.specs.declared.record.Record.{Record}
+use Rattle.hand_canon.specs.declared.record.Record.{Record}
 use Rattle.first_fault.specs.Reading.{◌>>=◌, thread_from}
 use Rattle.phh_reading.specs.declared.field_fault.FieldKey.TheVariants as keys
 use Rattle.phh_reading.specs.declared.field_fault.FieldFaultKind.{FieldFaultKind}
@@ -17,7 +17,7 @@ use Rattle.phh_reading.specs.declared.fault.PhhFault.{PhhFault}
 use Rattle.phh_reading.specs.declared.fault.PhhFault.TheVariants as faults
 use Rattle.phh_reading.specs.Hand.{hand_said}
 use Rattle.phh_reading.specs.Order.{is_multi_hand, in_order}
-use Rattle.hand_records.specs.PlainHands.{PlainHand, plain}
+use Rattle.hand_canon.specs.PlainHands.{PlainHand, plain}
 
 -- a fault of the hand with this number
 abbrev pub in_hand : {A : Type 0} → ℕ → Result A FieldFault → Result A PhhHandFault

@@ -10,8 +10,8 @@ use Rattle.play_event.specs.Games.{game_of, all_games}
 use Rattle.play_event.specs.Streets.{limit_of, is_stud}
 use Rattle.play_event.specs.ValidSetup.{is_fixed}
 use Rattle.first_fault.specs.Reading.{◌>>=◌, read_if}
-use Rattle.hand_records.specs.declared.sizes.Sizes.{Sizes}
-use Rattle.hand_records.specs.PlainHands.{PlainSetup}
+use Rattle.hand_canon.specs.declared.sizes.Sizes.{Sizes}
+use Rattle.hand_canon.specs.PlainHands.{PlainSetup}
 use Rattle.phh_reading.specs.declared.field_fault.FieldKey.{FieldKey}
 use Rattle.phh_reading.specs.declared.field_fault.FieldKey.TheVariants as keys
 use Rattle.phh_reading.specs.declared.field_fault.FieldFaultKind.TheVariants as whats

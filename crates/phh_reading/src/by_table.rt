@@ -8,14 +8,14 @@ ghost use Rattle.first_fault.specs.Digits.{are_digits};
 ghost use Rattle.phh_reading.specs.declared.by_table.TheConstants.{MOST_NUMBER};
 ghost use Rattle.phh_reading.specs.NextTable.{IsNextHand as IsNextTable};
 ghost use Rattle.phh_reading.specs.Reading.{document_said, numbered_hand};
-ghost use Rattle.hand_records.specs.Histories.{AreHistories, IsNextHand};
-ghost use Rattle.hand_records.specs.PlainHands.{plain};
+ghost use Rattle.hand_canon.specs.Histories.{AreHistories, IsNextHand};
+ghost use Rattle.hand_canon.specs.PlainHands.{plain};
 
 use crate::file::read_numbered;
+use crate::table::{first_line, first_table};
 use card_set::Memory;
 use first_fault::{ReadError, read_digits};
-use hand_records::{Record, Records};
-use phh_tables::{first_line, first_table};
+use hand_canon::{Record, Records};
 use std::alloc::Global;
 use toml::Table;
 

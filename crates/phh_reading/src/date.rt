@@ -1,7 +1,7 @@
 //! Reads when a hand was played from its fields: a date and a time of day.
 ghost use Rattle.std.specs.Prelude.{◌≡◌, Option, Some, None, true, IfOk, IfSome};
 ghost use Rattle.toml.specs.View.{table_view, view};
-ghost use Rattle.hand_records.specs.AllowedNotes.{IsTime, IsWithin};
+ghost use Rattle.hand_canon.specs.AllowedNotes.{IsTime, IsWithin};
 ghost use Rattle.first_fault.specs.Reading.{Gives, read_if};
 ghost use Rattle.phh_reading.specs.declared.field_fault.FieldKey.TheVariants as keys;
 ghost use Rattle.phh_reading.specs.Fields.{at_key, number_said};
@@ -12,7 +12,7 @@ ghost use Rattle.phh_reading.specs.NoteFields as note_fields;
 use crate::field_fault::{FieldFault, FieldFaultKind, FieldKey, FieldLocation};
 use crate::values::{field, field_fault_at, read_number};
 use first_fault::ReadError;
-use hand_records::{Clock, has_day};
+use hand_canon::{Clock, has_day};
 use toml::value::{Datetime, Time};
 use toml::{Table, Value};
 
@@ -41,7 +41,10 @@ pub fn read_day(table: &Table) -> Result<PartialDate, ReadError<FieldFault>>
     if is_in_calendar(date) {
         Ok(date)
     } else {
-        Err(field_fault_at(FieldFaultKind::WrongType, FieldLocation::at_key(FieldKey::Day)))
+        Err(field_fault_at(
+            FieldFaultKind::WrongType,
+            FieldLocation::at_key(FieldKey::Day),
+        ))
     }
 }
 

@@ -7,8 +7,8 @@ ghost use Rattle.first_fault.specs.Reading.{Gives};
 ghost use Rattle.phh_reading.specs.declared.field_fault.FieldKey.TheVariants as keys;
 ghost use Rattle.phh_reading.specs.Fields.{at_key};
 ghost use Rattle.phh_reading.specs.Reading.{hands_of, hands_said, numbered_hand, records_said, those_said};
-ghost use Rattle.hand_records.specs.Histories.{AreHistories, IsNextHand};
-ghost use Rattle.hand_records.specs.PlainHands.{plain};
+ghost use Rattle.hand_canon.specs.Histories.{AreHistories, IsNextHand};
+ghost use Rattle.hand_canon.specs.PlainHands.{plain};
 
 use crate::fault::PhhHandFault;
 use crate::field_fault::{FieldFault, FieldFaultKind, FieldKey, FieldLocation};
@@ -16,7 +16,7 @@ use crate::hand::read_hand;
 use crate::order::{is_multi_hand, tables_in_order};
 use crate::values::field;
 use first_fault::{MOST_HANDS, Quantity, ReadError};
-use hand_records::{Record, Records};
+use hand_canon::{Record, Records};
 use std::alloc::Global;
 use toml::Table;
 

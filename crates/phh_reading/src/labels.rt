@@ -2,7 +2,7 @@
 ghost use Rattle.std.specs.Prelude.{[], IfOk, IfSome};
 ghost use Rattle.std.specs.Fmt.{decimal};
 ghost use Rattle.toml.specs.View.{table_view};
-ghost use Rattle.hand_records.specs.AllowedNotes.{AreNoteTexts, IsNoteText};
+ghost use Rattle.hand_canon.specs.AllowedNotes.{AreNoteTexts, IsNoteText};
 ghost use Rattle.first_fault.specs.Reading.{Gives, or_none};
 ghost use Rattle.phh_reading.specs.declared.field_fault.FieldKey.TheVariants as keys;
 ghost use Rattle.phh_reading.specs.Fields.{at_key};
@@ -14,7 +14,7 @@ use crate::texts::{read_label, read_text_note};
 use crate::values::field;
 use card_set::displayed;
 use first_fault::{ReadError, Text};
-use hand_records::TextNotes;
+use hand_canon::TextNotes;
 use std::alloc::Global;
 use toml::Table;
 

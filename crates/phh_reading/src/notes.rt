@@ -1,9 +1,9 @@
 //! Reads the notes of a hand from its fields, and checks that they are allowed.
 ghost use Rattle.std.specs.Prelude.{IfOk};
 ghost use Rattle.toml.specs.View.{table_view};
-ghost use Rattle.hand_records.specs.AllowedNotes.{AreAllowed};
+ghost use Rattle.hand_canon.specs.AllowedNotes.{AreAllowed};
 ghost use Rattle.first_fault.specs.Reading.{Gives};
-ghost use Rattle.hand_records.specs.SaidNotes.{plain_notes};
+ghost use Rattle.hand_canon.specs.SaidNotes.{plain_notes};
 ghost use Rattle.phh_reading.specs.NoteFields.{notes_said};
 
 use crate::date::{PartialDate, read_day, read_time_at};
@@ -12,7 +12,7 @@ use crate::labels::{Labels, read_labels, text_at};
 use crate::seating::{Seating, read_seating};
 use chip_ledger::PlayerCount;
 use first_fault::ReadError;
-use hand_records::Notes;
+use hand_canon::Notes;
 use std::alloc::Global;
 use toml::Table;
 

@@ -1,7 +1,7 @@
 //! Reads who sits where from the fields of a hand.
 ghost use Rattle.std.specs.Prelude.{◌≡◌, ℕ, ◌+◌, ◌≤◌, ◌<◌, None, length, map, replicate, take, slice_index, slice_index_or, IfOk, IfSome, option_map};
 ghost use Rattle.toml.specs.View.{table_view, view};
-ghost use Rattle.hand_records.specs.AllowedNotes.{AreSeatNumbers, IsName, IsSeatCount, IsWithin};
+ghost use Rattle.hand_canon.specs.AllowedNotes.{AreSeatNumbers, IsName, IsSeatCount, IsWithin};
 ghost use Rattle.first_fault.specs.Reading.{Gives, or_none};
 ghost use Rattle.phh_reading.specs.declared.field_fault.FieldKey.TheVariants as keys;
 ghost use Rattle.phh_reading.specs.Fields.{at_item};
@@ -15,7 +15,7 @@ use crate::values::{field, read_items, read_number};
 use card_set::try_format;
 use chip_ledger::PlayerCount;
 use first_fault::{ReadError, Text};
-use hand_records::non_default_seats;
+use hand_canon::non_default_seats;
 use std::alloc::Global;
 use toml::{Table, Value};
 

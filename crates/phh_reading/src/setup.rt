@@ -8,7 +8,7 @@ ghost use Rattle.chip_ledger.specs.declared.numbers.TheConstants.{MOST_CHIPS};
 ghost use Rattle.play_event.specs.Streets.{is_stud};
 ghost use Rattle.play_event.specs.ValidSetup.{IsValid};
 ghost use Rattle.first_fault.specs.Reading.{Gives};
-ghost use Rattle.hand_records.specs.PlainHands.{plain_setup};
+ghost use Rattle.hand_canon.specs.PlainHands.{plain_setup};
 ghost use Rattle.phh_reading.specs.SetupFields.{blinds_said, game_named, setup_said, trimming_said, variant_said};
 ghost use Rattle.phh_reading.specs.SetupFields as setup_fields;
 
@@ -18,7 +18,7 @@ use crate::sizes::read_sizes;
 use crate::values::{field, field_fault_at, read_flag, read_text, required};
 use chip_ledger::{MOST_CHIPS, PlayerCount, RakeRow, SeatRow};
 use first_fault::ReadError;
-use hand_records::Sizes;
+use hand_canon::Sizes;
 use play_event::{Code, Setup};
 use toml::{Table, Value};
 

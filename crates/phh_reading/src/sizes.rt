@@ -10,7 +10,7 @@ use crate::field_fault::{FieldFault, FieldKey, FieldLocation};
 use crate::values::{read_amount, required};
 use chip_ledger::MOST_CHIPS;
 use first_fault::ReadError;
-use hand_records::Sizes;
+use hand_canon::Sizes;
 use play_event::Code;
 use toml::Table;
 

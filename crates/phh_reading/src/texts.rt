@@ -1,7 +1,7 @@
 //! Keeps the text of a note if it is neither empty nor the default of the note.
 ghost use Rattle.std.specs.Prelude.{◌≡◌, IfOk, IfSome};
 ghost use Rattle.toml.specs.View.{view};
-ghost use Rattle.hand_records.specs.AllowedNotes.{IsUnusualNote};
+ghost use Rattle.hand_canon.specs.AllowedNotes.{IsUnusualNote};
 ghost use Rattle.first_fault.specs.Reading.{Gives};
 ghost use Rattle.phh_reading.specs.Fields.{fault_at};
 ghost use Rattle.phh_reading.specs.NoteFields.{label_said, text_note_said};
@@ -10,7 +10,7 @@ use crate::field_fault::{FieldFault, FieldFaultKind, FieldLocation};
 use crate::values::{field_fault_at, read_text};
 use card_set::displayed;
 use first_fault::{Quantity, ReadError, Text};
-use hand_records::keep_text;
+use hand_canon::keep_text;
 use std::alloc::Global;
 use toml::Value;
 

@@ -20,9 +20,9 @@ use Rattle.convert_core.specs.declared.refusal.PlaysFault.{PlaysFault}
 use Rattle.convert_core.specs.declared.refusal.PlaysFault.TheVariants as plays_faults
 use Rattle.convert_core.specs.declared.refusal.Refusal.{Refusal}
 use Rattle.convert_core.specs.declared.format_fault.FormatFault.{FormatFault}
-use Rattle.hand_records.specs.declared.record.Record.{Record}
-use Rattle.hand_records.specs.declared.trace.Play.{Play}
-use Rattle.hand_records.specs.declared.writing.Unspelled.{Unspelled}
+use Rattle.hand_canon.specs.declared.record.Record.{Record}
+use Rattle.hand_canon.specs.declared.trace.Play.{Play}
+use Rattle.hand_canon.specs.declared.writing.Unspelled.{Unspelled}
 use Rattle.poker_cli.specs.Answer.{IsAnswer, IsAnswerBy, IsAnswerIn, IsAnswerUnder}
 use Rattle.poker_cli.specs.AnswerParts.{Answer, IsAnswerTo, done, most_input, to_excess, to_fault, to_refusal, to_unread}
 use Rattle.poker_cli.specs.Convert.{IsWritten}

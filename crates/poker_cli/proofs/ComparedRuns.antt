@@ -13,8 +13,8 @@ use Rattle.convert_core.proofs.LawfulNotations.{read_sound}
 use Rattle.hand_canon.specs.Sound.{IsSound}
 use Rattle.hand_differences.proofs.SameHands.{made_none, neither, same_traces, same_with_notes}
 use Rattle.hand_differences.specs.FirstDifference.{PlainDifference, first_difference}
-use Rattle.hand_records.specs.SameHands.{AllPaired}
-use Rattle.hand_records.specs.declared.trace.Play.{Play}
+use Rattle.hand_canon.specs.SameHands.{AllPaired}
+use Rattle.hand_canon.specs.declared.trace.Play.{Play}
 use Rattle.poker_cli.specs.Answer.{IsAnswerIn}
 use Rattle.poker_cli.specs.AnswerParts.{Answer, most_input}
 use Rattle.poker_cli.specs.Files.{Files}

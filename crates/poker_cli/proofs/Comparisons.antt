@@ -21,12 +21,12 @@ use Rattle.first_fault.specs.declared.limits.TheConstants.{MOST_HANDS}
 use Rattle.hand_canon.specs.Sound.{IsSound}
 use Rattle.hand_differences.proofs.SameHands.{made_none, neither, same_traces, same_with_notes}
 use Rattle.hand_differences.specs.FirstDifference.{PlainDifference, first_difference, note_difference, play_difference}
-use Rattle.hand_records.specs.SaidNotes.{SaidNotes}
-use Rattle.hand_records.specs.SameHands.{AllPaired, AreSameHand, AreSameHands, kept_notes}
-use Rattle.hand_records.specs.declared.trace.Play.{Play}
-use Rattle.hand_records.specs.declared.trace.Trace.{Trace}
-use Rattle.hand_records.specs.declared.writing.Keep.{Keep}
-use Rattle.hand_records.specs.declared.writing.Keep.TheVariants as keeps
+use Rattle.hand_canon.specs.SaidNotes.{SaidNotes}
+use Rattle.hand_canon.specs.SameHands.{AllPaired, AreSameHand, AreSameHands, kept_notes}
+use Rattle.hand_canon.specs.declared.trace.Play.{Play}
+use Rattle.hand_canon.specs.declared.trace.Trace.{Trace}
+use Rattle.hand_canon.specs.declared.writing.Keep.{Keep}
+use Rattle.hand_canon.specs.declared.writing.Keep.TheVariants as keeps
 use Rattle.poker_cli.specs.Answer.{IsAnswerIn}
 use Rattle.poker_cli.specs.AnswerParts.{Answer, most_input, to_refusal}
 use Rattle.poker_cli.specs.Files.{Files}

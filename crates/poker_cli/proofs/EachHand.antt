@@ -3,7 +3,7 @@ use Rattle.std.proofs.Common.{◌≡◌, ℕ, suc, ◌+◌, ◌-◌, ◌<◌, �
 use Rattle.std.proofs.lemmas.List.{append-nil, length-take-le, take_more}
 use Rattle.std.proofs.lemmas.Option.{get_or_from_slice_get, slice_get_past, slice_get_within}
 use Rattle.std.specs.List.{slice_get}
-use Rattle.hand_records.specs.declared.record.Record.{Record}
+use Rattle.hand_canon.specs.declared.record.Record.{Record}
 use Rattle.poker_cli.specs.Each.{Adds, AreReplayedAlone, IsReplayedAlone, record_numbered}
 
 pub numbered : (records : List Record) (number place : ℕ) (hand : Record) → place ≡ number - 1 → slice_get records place ≡ Some hand → record_numbered records number ≡ Some hand

@@ -8,10 +8,10 @@ use Rattle.convert_core.specs.Conversion.{ReadAsPlays, ReadAsRefused}
 use Rattle.convert_core.specs.declared.convert_fault.ConvertFault.TheVariants as faults
 use Rattle.convert_core.specs.declared.format_fault.FormatFault.{FormatFault}
 use Rattle.convert_core.specs.declared.refusal.Refusal.{Refusal}
-use Rattle.hand_records.specs.SameHands.{AreSameHands, kept_notes}
-use Rattle.hand_records.specs.declared.trace.Play.{Play}
-use Rattle.hand_records.specs.declared.writing.Keep.{Keep}
-use Rattle.hand_records.specs.declared.writing.Keep.TheVariants as keeps
+use Rattle.hand_canon.specs.SameHands.{AreSameHands, kept_notes}
+use Rattle.hand_canon.specs.declared.trace.Play.{Play}
+use Rattle.hand_canon.specs.declared.writing.Keep.{Keep}
+use Rattle.hand_canon.specs.declared.writing.Keep.TheVariants as keeps
 use Rattle.poker_cli.specs.Answer.{IsAnswer}
 use Rattle.poker_cli.specs.AnswerParts.{Answer, done, most_input, to_unspelled}
 use Rattle.poker_cli.specs.Convert.{IsConversion}

@@ -10,11 +10,11 @@ use Rattle.acpc_game.specs.GameView.{game_in}
 use Rattle.acpc_game.specs.SaidGames.{are_caps}
 use Rattle.acpc_game.specs.declared.game.Game.{Game}
 use Rattle.acpc_game.proofs.GameAgain.{kept_again, kept_game}
-use Rattle.acpc_writing.specs.GameOf.{game_by_limit, game_of, game_with, is_sized_by_blind, no_limit_of}
+use Rattle.acpc_format.specs.GameOf.{game_by_limit, game_of, game_with, is_sized_by_blind, no_limit_of}
 use Rattle.chip_ledger.specs.SeatRow.{amounts_in}
-use Rattle.hand_records.specs.declared.trace.Play.{Play}
-use Rattle.hand_records.specs.declared.writing.Unspelled.{Unspelled}
-use Rattle.hand_records.specs.declared.writing.Unspelled.TheVariants as facts
+use Rattle.hand_canon.specs.declared.trace.Play.{Play}
+use Rattle.hand_canon.specs.declared.writing.Unspelled.{Unspelled}
+use Rattle.hand_canon.specs.declared.writing.Unspelled.TheVariants as facts
 use Rattle.play_event.specs.declared.setup.Setup.{Setup}
 use Rattle.poker_cli.specs.AnswerParts.{done, to_unspelled}
 use Rattle.poker_cli.specs.Game.{IsGameReply, to_game}

@@ -8,9 +8,9 @@ use Rattle.convert_core.proofs.LawfulNotations.{no_fault}
 use Rattle.convert_core.specs.Faults.{excess_of}
 use Rattle.convert_core.specs.declared.format_fault.FormatFault.{FormatFault}
 use Rattle.first_fault.specs.declared.limits.Quantity.{Quantity}
-use Rattle.hand_records.specs.declared.record.Record.{Record}
-use Rattle.hand_records.specs.declared.trace.Play.{Play}
-use Rattle.hand_records.specs.declared.writing.Keep.{Keep}
+use Rattle.hand_canon.specs.declared.record.Record.{Record}
+use Rattle.hand_canon.specs.declared.trace.Play.{Play}
+use Rattle.hand_canon.specs.declared.writing.Keep.{Keep}
 use Rattle.host_io.specs.Faults.{Rose}
 use Rattle.poker_cli.specs.Answer.{IsAnswer}
 use Rattle.poker_cli.specs.AnswerParts.{Answer, most_input, to_fault, to_unread}

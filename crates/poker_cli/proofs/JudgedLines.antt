@@ -1,7 +1,7 @@
 -- The line of the verdict on one more hand.
 use Rattle.std.proofs.Common.{◌≡◌, true, false, ℕ, ◌+◌, ◌≤◌, List, [], ◌∷◌, ◌++◌, length, slice_get, append_assoc, append-nil, length-append, refl, sym, ap, ◌∙◌, arith}
-use Rattle.hand_records.specs.declared.record.Record.{Record}
-use Rattle.hand_records.specs.declared.trace.Play.{Play}
+use Rattle.hand_canon.specs.declared.record.Record.{Record}
+use Rattle.hand_canon.specs.declared.trace.Play.{Play}
 use Rattle.convert_core.specs.declared.refusal.Refusal.{Refusal}
 use Rattle.convert_core.proofs.Taken.{legal_more, legal_same}
 use Rattle.convert_core.specs.Taking.{AreTaken}

@@ -7,10 +7,10 @@ use Rattle.convert_core.specs.FormatLaws.{lawful_of}
 use Rattle.convert_core.specs.Formats.{AreSameIn, SayRecords, kept_in, meaning_of}
 use Rattle.convert_core.specs.SameAnswers.{AreSameAnswers}
 use Rattle.convert_core.specs.declared.format.Format.{Format}
-use Rattle.hand_records.specs.SameHands.{AreSameHands, kept_notes}
-use Rattle.hand_records.specs.declared.trace.Play.{Play}
-use Rattle.hand_records.specs.declared.writing.Keep.{Keep}
-use Rattle.hand_records.specs.declared.writing.Keep.TheVariants as keeps
+use Rattle.hand_canon.specs.SameHands.{AreSameHands, kept_notes}
+use Rattle.hand_canon.specs.declared.trace.Play.{Play}
+use Rattle.hand_canon.specs.declared.writing.Keep.{Keep}
+use Rattle.hand_canon.specs.declared.writing.Keep.TheVariants as keeps
 use Rattle.poker_cli.specs.Headline.{ConversionEnds, ConvertsInto}
 use Rattle.poker_cli.specs.Run.{Sinks}
 use Rattle.poker_cli.specs.RunReports.{report_by}

@@ -11,7 +11,7 @@ use Rattle.convert_core.proofs.LawfulNotations.{no_fault}
 use Rattle.convert_core.proofs.OneConversion.{all_same}
 use Rattle.convert_core.proofs.OneOutcome.{AllTheSame, moved, turned}
 use Rattle.convert_core.specs.SameRecords.{SayTheSame}
-use Rattle.hand_records.specs.declared.record.Record.{Record}
+use Rattle.hand_canon.specs.declared.record.Record.{Record}
 use Rattle.poker_cli.specs.Answer.{IsAnswer, IsAnswerIn}
 use Rattle.poker_cli.specs.AnswerParts.{Answer, most_input}
 use Rattle.poker_cli.specs.Files.{Files}

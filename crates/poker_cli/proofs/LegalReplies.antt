@@ -7,8 +7,8 @@ use Rattle.chip_ledger.specs.declared.numbers.Seat.{Seat}
 use Rattle.command_words.specs.Words.{Request}
 use Rattle.convert_core.proofs.OneOutcome.{AllTraced}
 use Rattle.hand_equity.specs.Street.{deals_board, first_unknown}
-use Rattle.hand_records.specs.declared.trace.Play.{Play}
-use Rattle.hand_records.specs.declared.trace.Trace.{Trace}
+use Rattle.hand_canon.specs.declared.trace.Play.{Play}
+use Rattle.hand_canon.specs.declared.trace.Trace.{Trace}
 use Rattle.poker_cli.specs.AnswerParts.{Answer, done, hand_numbered}
 use Rattle.poker_cli.specs.Files.{Files}
 use Rattle.poker_cli.specs.LegalInputs.{AsksOfLegal}

@@ -12,17 +12,17 @@ use Rattle.command_words.specs.declared.command.Command.{Command}
 use Rattle.command_words.specs.declared.command.Command.TheVariants as commands
 use Rattle.command_words.specs.Words.{Load, Plain, Request, Under, Compare}
 use Rattle.command_words.specs.declared.command.EachQuestion.{EachQuestion}
-use Rattle.hand_records.specs.declared.record.Record.{Record}
-use Rattle.hand_records.specs.declared.writing.Keep.{Keep}
-use Rattle.hand_records.specs.declared.writing.Unspelled.{Unspelled}
-use Rattle.hand_records.specs.declared.writing.WriteRefusal.TheVariants as refusals
-use Rattle.hand_records.specs.declared.trace.Play.{Play}
-use Rattle.hand_records.specs.declared.trace.Trace.{Trace}
+use Rattle.hand_canon.specs.declared.record.Record.{Record}
+use Rattle.hand_canon.specs.declared.writing.Keep.{Keep}
+use Rattle.hand_canon.specs.declared.writing.Unspelled.{Unspelled}
+use Rattle.hand_canon.specs.declared.writing.WriteRefusal.TheVariants as refusals
+use Rattle.hand_canon.specs.declared.trace.Play.{Play}
+use Rattle.hand_canon.specs.declared.trace.Trace.{Trace}
 use Rattle.play_event.specs.declared.event.Event.{Event}
 use Rattle.play_event.specs.declared.setup.Setup.{Setup}
 use Rattle.printed_hands.specs.Check.{check_end, check_line, check_said, each_hand}
 use Rattle.printed_hands.specs.Steps.{replay_lines}
-use Rattle.printed_report.specs.Report.{Hand, Seated, hand_of, report_on, seated_in}
+use Rattle.printed_hands.specs.Report.{Hand, Seated, hand_of, report_on, seated_in}
 use Rattle.hand_canon.specs.LegalPlay.{IsLegalPlay}
 use Rattle.convert_core.specs.FormatLaws.{lawful_of}
 use Rattle.convert_core.specs.Judged.{ArePlaysOf, IsFirstRefused}
@@ -69,7 +69,7 @@ use Rattle.poker_cli.proofs.OneEach.{one_of_each, same_replay_lines}
 use Rattle.poker_cli.proofs.OneJudgement.{same_judged}
 use Rattle.card_set.proofs.NumbersOfRange.{map_agree}
 use Rattle.chip_ledger.specs.SeatsSaid.{default_name}
-use Rattle.hand_records.specs.Plays.{hands_of}
+use Rattle.hand_canon.specs.Plays.{hands_of}
 
 -- the lines of hands with the same traces
 same_lines : (lines : ℕ → Play → List ℕ)

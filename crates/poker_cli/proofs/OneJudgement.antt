@@ -3,7 +3,7 @@ use Rattle.std.proofs.Common.{◌≡◌, ℕ, ◌+◌, All, List, [], ◌∷◌,
 use Rattle.std.proofs.lemmas.List.Elements.{All-head, All-tail}
 use Rattle.convert_core.proofs.OneOutcome.{AllTheSame, not_judged, one_refusal, turned}
 use Rattle.convert_core.specs.Verdicts.{AreVerdictsOn, IsRight, Legal, Refused, Verdict, hand_in, legal_plays}
-use Rattle.hand_records.specs.declared.record.Record.{Record}
+use Rattle.hand_canon.specs.declared.record.Record.{Record}
 use Rattle.convert_core.specs.declared.refusal.Refusal.{Refusal}
 use Rattle.poker_cli.specs.Judge.{each_verdict, verdict_line, verdicts_end, verdicts_said}
 

@@ -19,10 +19,10 @@ use Rattle.hand_equity.specs.declared.row.EquityRow.{EquityRow}
 use Rattle.hand_options.proofs.OneText.{one_text}
 use Rattle.hand_options.specs.Legal.{AreOptions}
 use Rattle.hand_options.specs.declared.choices.Options.{Options}
-use Rattle.hand_records.specs.Plays.{hands_of}
-use Rattle.hand_records.specs.SoundRecord.{script_said}
-use Rattle.hand_records.specs.declared.trace.Play.{Play}
-use Rattle.hand_records.specs.declared.trace.Trace.{Trace}
+use Rattle.hand_canon.specs.Plays.{hands_of}
+use Rattle.hand_canon.specs.SoundRecord.{script_said}
+use Rattle.hand_canon.specs.declared.trace.Play.{Play}
+use Rattle.hand_canon.specs.declared.trace.Trace.{Trace}
 use Rattle.hand_session.specs.Hands.{Hand, Seated, hand_of, seated_in}
 use Rattle.play_event.specs.Scripts.{past_after}
 use Rattle.play_event.specs.Seats.{all_seats}

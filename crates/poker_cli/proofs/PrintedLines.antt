@@ -1,8 +1,8 @@
 -- The lines of one more hand, and of all hands.
 use Rattle.std.proofs.Common.{◌≡◌, ℕ, ◌+◌, List, [], ◌∷◌, ◌++◌, length, sym, ap, ◌∙◌, arith}
 use Rattle.std.proofs.lemmas.List.{length-map}
-use Rattle.hand_records.specs.declared.record.Record.{Record}
-use Rattle.hand_records.specs.declared.trace.Play.{Play}
+use Rattle.hand_canon.specs.declared.record.Record.{Record}
+use Rattle.hand_canon.specs.declared.trace.Play.{Play}
 use Rattle.printed_hands.specs.Check.{check_end, check_line, check_said, each_hand}
 use Rattle.printed_hands.specs.Replay.{replay_said}
 use Rattle.printed_hands.specs.Steps.{replay_lines}

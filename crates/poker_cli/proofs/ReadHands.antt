@@ -12,11 +12,11 @@ use Rattle.convert_core.specs.Lawful.{is_note}
 use Rattle.convert_core.specs.Conversion.{ReadAsPlays}
 use Rattle.hand_canon.specs.LegalPlay.{IsLegalPlay}
 use Rattle.hand_canon.specs.Sharp.{IsOther, is_sharp}
-use Rattle.hand_records.specs.Plays.{hands_of}
-use Rattle.hand_records.specs.declared.trace.Play.{Play}
-use Rattle.hand_records.specs.declared.writing.Keep.TheVariants as keeps
-use Rattle.hand_records.specs.declared.writing.Unspelled.{Unspelled}
-use Rattle.hand_records.specs.declared.writing.Unspelled.TheVariants as facts
+use Rattle.hand_canon.specs.Plays.{hands_of}
+use Rattle.hand_canon.specs.declared.trace.Play.{Play}
+use Rattle.hand_canon.specs.declared.writing.Keep.TheVariants as keeps
+use Rattle.hand_canon.specs.declared.writing.Unspelled.{Unspelled}
+use Rattle.hand_canon.specs.declared.writing.Unspelled.TheVariants as facts
 use Rattle.convert_core.specs.Formats.{SayRecords, unspelled_in}
 use Rattle.poker_cli.specs.AnswerParts.{hand_numbered}
 use Rattle.convert_core.specs.declared.format.Format.{Format}

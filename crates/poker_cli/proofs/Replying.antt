@@ -8,7 +8,7 @@ use Rattle.command_words.specs.declared.notation.NotationName.{NotationName}
 use Rattle.convert_core.specs.Conversion.{IsPlaysRefusal}
 use Rattle.convert_core.specs.declared.convert_fault.ConvertFault.{ConvertFault}
 use Rattle.convert_core.specs.declared.convert_fault.ConvertFault.TheVariants as convert_faults
-use Rattle.hand_records.specs.declared.trace.Play.{Play}
+use Rattle.hand_canon.specs.declared.trace.Play.{Play}
 use Rattle.poker_cli.specs.AnswerParts.{Answer, most_input, to_excess}
 use Rattle.poker_cli.specs.Compare.{IsComparedIn, IsComparedTo, IsComparedWith, IsComparison, IsComparisonOf, in_file, to_file_excess}
 use Rattle.poker_cli.specs.Files.{Files, FilesByName}

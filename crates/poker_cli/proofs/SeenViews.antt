@@ -3,7 +3,7 @@ use Rattle.std.proofs.Common.{◌≡◌, ◌⊎◌, ◌≤◌, ◌<◌, ◌+◌,
 use Rattle.acpc_game.specs.declared.game.Game.{Game}
 use Rattle.acpc_view.specs.View.{views_text}
 use Rattle.chip_ledger.specs.declared.numbers.Seat.{Seat}
-use Rattle.hand_records.specs.declared.trace.Play.{Play}
+use Rattle.hand_canon.specs.declared.trace.Play.{Play}
 use Rattle.poker_cli.specs.Views.{AreSeen, each_view, most_view_bytes}
 
 module _ (game : Game) (seat : Seat) where

@@ -8,8 +8,8 @@ use Rattle.command_words.specs.declared.command.Command.{Command}
 use Rattle.command_words.specs.declared.command.Command.TheVariants as commands
 use Rattle.command_words.specs.declared.request.Logs.{Logs}
 use Rattle.convert_core.specs.declared.format_fault.FormatFault.{FormatFault}
-use Rattle.hand_records.specs.declared.record.Record.{Record}
-use Rattle.hand_records.specs.declared.trace.Play.{Play}
+use Rattle.hand_canon.specs.declared.record.Record.{Record}
+use Rattle.hand_canon.specs.declared.trace.Play.{Play}
 use Rattle.hand_session.specs.Printed.{session_printed}
 use Rattle.hand_session.specs.Sessions.{session_said}
 use Rattle.poker_cli.specs.AnswerParts.{Answer, IsAnswerTo, done, most_input, to_excess}
@@ -30,7 +30,7 @@ use Rattle.convert_core.specs.declared.format.Format.{Format}
 use Rattle.poker_cli.specs.declared.task.Job.{Job}
 use Rattle.printed_hands.specs.Check.{check_said}
 use Rattle.printed_hands.specs.Replay.{replay_said}
-use Rattle.printed_report.specs.Report.{report_said}
+use Rattle.printed_hands.specs.Report.{report_said}
 
 -- the answer to a command about hands that are all legal and agree with what is stated of them, and
 -- were read in a notation; verdicts and answers of each hand by itself are not made of plays

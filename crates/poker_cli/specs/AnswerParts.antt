@@ -9,10 +9,10 @@ use Rattle.convert_core.specs.Faults.{excess_of, is_out_of_memory}
 use Rattle.convert_core.specs.declared.format_fault.FormatFault.{FormatFault}
 use Rattle.convert_core.specs.declared.refusal.Refusal.{Refusal}
 use Rattle.first_fault.specs.declared.limits.Quantity.{Quantity}
-use Rattle.hand_records.specs.FactTexts.{fact_text}
-use Rattle.hand_records.specs.declared.record.Record.{Record}
-use Rattle.hand_records.specs.declared.trace.Play.{Play}
-use Rattle.hand_records.specs.declared.writing.Unspelled.{Unspelled}
+use Rattle.hand_canon.specs.FactTexts.{fact_text}
+use Rattle.hand_canon.specs.declared.record.Record.{Record}
+use Rattle.hand_canon.specs.declared.trace.Play.{Play}
+use Rattle.hand_canon.specs.declared.writing.Unspelled.{Unspelled}
 use Rattle.poker_cli.specs.Limits.{excess_line, limit_line}
 use Rattle.poker_cli.specs.declared.status.Status.{Status}
 use Rattle.poker_cli.specs.declared.status.Status.TheVariants as statuses

@@ -12,7 +12,7 @@ use Rattle.convert_core.specs.declared.format_fault.FormatFault.{FormatFault}
 use Rattle.convert_core.specs.declared.refusal.Refusal.{Refusal}
 use Rattle.hand_differences.specs.DifferenceText.{difference_text}
 use Rattle.hand_differences.specs.FirstDifference.{PlainDifference, difference_said, first_difference}
-use Rattle.hand_records.specs.declared.trace.Play.{Play}
+use Rattle.hand_canon.specs.declared.trace.Play.{Play}
 use Rattle.poker_cli.specs.AnswerParts.{Answer, IsAnswerTo, done, most_input, refusal, to_excess, to_fault, to_refusal}
 use Rattle.poker_cli.specs.Files.{Files}
 use Rattle.poker_cli.specs.GameFiles.{GivesGame, GivesNoGame}

@@ -6,8 +6,8 @@ use Rattle.std.specs.Io.KnownBytes.{Appends}
 use Rattle.card_set.specs.Refusal.{WasRefused}
 use Rattle.convert_core.specs.Conversion.{ReadAsPlays}
 use Rattle.hand_differences.specs.FirstDifference.{first_difference}
-use Rattle.hand_records.specs.SameHands.{AllPaired, AreSameHand}
-use Rattle.hand_records.specs.declared.trace.Play.{Play}
+use Rattle.hand_canon.specs.SameHands.{AllPaired, AreSameHand}
+use Rattle.hand_canon.specs.declared.trace.Play.{Play}
 use Rattle.poker_cli.specs.AnswerParts.{Answer, hand_numbered, most_input}
 use Rattle.poker_cli.specs.Compare.{DifferentHand, to_different, to_other_count, to_same}
 use Rattle.poker_cli.specs.Headline.{IsPrinted}

@@ -1,10 +1,10 @@
 -- What `convert` answers: the same hands in another notation.
 use Rattle.std.specs.Prelude.{◌≡◌, ℕ, List, Option, Some, None}
-use Rattle.hand_records.specs.WriteRefusals.{first_refusal}
-use Rattle.hand_records.specs.declared.trace.Play.{Play}
-use Rattle.hand_records.specs.declared.writing.Keep.{Keep}
-use Rattle.hand_records.specs.declared.writing.Unspelled.{Unspelled}
-use Rattle.hand_records.specs.declared.writing.WriteRefusal.TheVariants as refusals
+use Rattle.hand_canon.specs.WriteRefusals.{first_refusal}
+use Rattle.hand_canon.specs.declared.trace.Play.{Play}
+use Rattle.hand_canon.specs.declared.writing.Keep.{Keep}
+use Rattle.hand_canon.specs.declared.writing.Unspelled.{Unspelled}
+use Rattle.hand_canon.specs.declared.writing.WriteRefusal.TheVariants as refusals
 use Rattle.poker_cli.specs.AnswerParts.{Answer, done, to_unspelled}
 use Rattle.convert_core.specs.Formats.{ReadsBack, SpellPlays, unspelled_in}
 use Rattle.convert_core.specs.declared.format.Format.{Format}

@@ -12,9 +12,9 @@ use Rattle.hand_options.specs.EveryPoint.{AreOptionTexts}
 use Rattle.hand_options.specs.Legal.{AreOptions}
 use Rattle.hand_options.specs.Printed.{options_said}
 use Rattle.hand_options.specs.declared.choices.Options.{Options}
-use Rattle.hand_records.specs.SoundRecord.{script_said}
-use Rattle.hand_records.specs.declared.record.Record.{Record}
-use Rattle.hand_records.specs.declared.trace.Trace.{Trace}
+use Rattle.hand_canon.specs.SoundRecord.{script_said}
+use Rattle.hand_canon.specs.declared.record.Record.{Record}
+use Rattle.hand_canon.specs.declared.trace.Trace.{Trace}
 use Rattle.play_event.specs.Scripts.{past_after}
 use Rattle.poker_cli.specs.AnswerParts.{Answer, done, no_hand, to_fault}
 use Rattle.poker_cli.specs.Judge.{verdict_line}

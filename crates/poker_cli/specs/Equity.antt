@@ -6,7 +6,7 @@ use Rattle.hand_equity.specs.declared.refusal.NoEquity.TheVariants as lacking
 use Rattle.hand_equity.specs.declared.row.EquityRow.{EquityRow}
 use Rattle.hand_equity.specs.Street.{HasNoEquity, IsEquityOn}
 use Rattle.hand_equity.specs.Text.{equity_said}
-use Rattle.hand_records.specs.declared.trace.Play.{Play}
+use Rattle.hand_canon.specs.declared.trace.Play.{Play}
 use Rattle.poker_cli.specs.AnswerParts.{Answer, done, hand_numbered, no_hand, refusal}
 use Rattle.poker_cli.specs.declared.status.Status.TheVariants as statuses
 

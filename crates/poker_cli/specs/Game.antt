@@ -4,9 +4,9 @@ use Rattle.acpc_game.specs.GameFile.{GameSaid}
 use Rattle.acpc_game.specs.GameText.{game_text}
 use Rattle.acpc_game.specs.GameView.{game_in}
 use Rattle.acpc_game.specs.declared.game.Game.{Game}
-use Rattle.acpc_writing.specs.GameOf.{game_of}
-use Rattle.hand_records.specs.declared.trace.Play.{Play}
-use Rattle.hand_records.specs.declared.writing.Unspelled.{Unspelled}
+use Rattle.acpc_format.specs.GameOf.{game_of}
+use Rattle.hand_canon.specs.declared.trace.Play.{Play}
+use Rattle.hand_canon.specs.declared.writing.Unspelled.{Unspelled}
 use Rattle.poker_cli.specs.AnswerParts.{Answer, done, to_unspelled}
 use Rattle.poker_cli.specs.GameFiles.{GivesGame}
 

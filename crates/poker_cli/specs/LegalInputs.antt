@@ -4,9 +4,9 @@ use Rattle.std.specs.Prelude.{◌≡◌, ℕ, ◌≤◌, List, length, Some}
 use Rattle.card_set.specs.Refusal.{WasRefused}
 use Rattle.command_words.specs.Words.{Request}
 use Rattle.convert_core.specs.Conversion.{ReadAsPlays}
-use Rattle.hand_records.specs.SoundRecord.{script_said}
-use Rattle.hand_records.specs.declared.record.Record.{Record}
-use Rattle.hand_records.specs.declared.trace.Play.{Play}
+use Rattle.hand_canon.specs.SoundRecord.{script_said}
+use Rattle.hand_canon.specs.declared.record.Record.{Record}
+use Rattle.hand_canon.specs.declared.trace.Play.{Play}
 use Rattle.poker_cli.specs.AnswerParts.{most_input}
 use Rattle.poker_cli.specs.Each.{record_numbered}
 use Rattle.poker_cli.specs.Files.{Files}

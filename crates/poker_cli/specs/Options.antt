@@ -4,8 +4,8 @@ use Rattle.std.specs.Fmt.{decimal}
 use Rattle.hand_options.specs.declared.choices.Options.{Options}
 use Rattle.hand_options.specs.Legal.{AreOptions}
 use Rattle.hand_options.specs.Printed.{options_said}
-use Rattle.hand_records.specs.SoundRecord.{script_said}
-use Rattle.hand_records.specs.declared.trace.Play.{Play}
+use Rattle.hand_canon.specs.SoundRecord.{script_said}
+use Rattle.hand_canon.specs.declared.trace.Play.{Play}
 use Rattle.play_event.specs.Scripts.{past_after}
 use Rattle.poker_cli.specs.AnswerParts.{Answer, done, hand_numbered, no_hand, of_text, refusal}
 use Rattle.poker_cli.specs.declared.status.Status.TheVariants as statuses

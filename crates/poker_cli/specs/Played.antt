@@ -1,8 +1,8 @@
 -- Which plays were taken.
 use Rattle.std.specs.Prelude.{◌≤◌, ℕ, List, length}
 use Rattle.convert_core.specs.Judged.{ArePlaysOf}
-use Rattle.hand_records.specs.declared.record.Record.{Record}
-use Rattle.hand_records.specs.declared.trace.Play.{Play}
+use Rattle.hand_canon.specs.declared.record.Record.{Record}
+use Rattle.hand_canon.specs.declared.trace.Play.{Play}
 
 -- Plays were taken, and their number is within this limit.
 pub record HasTakenPlays (Took : List Play → Type 0) (most : ℕ) : Type 0 where

@@ -3,7 +3,7 @@ use Rattle.std.specs.Prelude.{◌⊎◌, ℕ, List, Option, Some, None, Result, 
 use Rattle.std.proofs.Common.{inl, inr}
 use Rattle.convert_core.specs.declared.convert_fault.ConvertFault.{ConvertFault}
 use Rattle.convert_core.specs.declared.convert_fault.ConvertFault.TheVariants as faults
-use Rattle.hand_records.specs.declared.writing.Keep.{Keep}
+use Rattle.hand_canon.specs.declared.writing.Keep.{Keep}
 use Rattle.poker_cli.specs.Headline.{ConversionEnds, IsTooLong, NamesFault}
 use Rattle.poker_cli.specs.Run.{Sinks}
 use Rattle.poker_cli.specs.declared.status.Status.{Status}

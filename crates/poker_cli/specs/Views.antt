@@ -4,8 +4,8 @@ use Rattle.acpc_game.specs.declared.game.Game.{Game}
 use Rattle.acpc_view.specs.View.{views_text}
 use Rattle.chip_ledger.specs.declared.numbers.Seat.{Seat}
 use Rattle.convert_core.specs.Judged.{ArePlaysOf}
-use Rattle.hand_records.specs.declared.record.Record.{Record}
-use Rattle.hand_records.specs.declared.trace.Play.{Play}
+use Rattle.hand_canon.specs.declared.record.Record.{Record}
+use Rattle.hand_canon.specs.declared.trace.Play.{Play}
 use Rattle.poker_cli.specs.AnswerParts.{Answer, done, of_text, refusal}
 use Rattle.poker_cli.specs.Limits.{excess_line}
 use Rattle.poker_cli.specs.declared.status.Status.TheVariants as statuses

@@ -23,7 +23,7 @@ use crate::views::answer_with_messages;
 use card_set::{Memory, try_format};
 use command_words::Command;
 use convert_core::{ConvertFault, Format, FormatFault, PlaysFault, Refusal};
-use hand_records::Unspelled;
+use hand_canon::Unspelled;
 use std::alloc::Global;
 
 /// An answer: its exit status, its output, and the diagnostic line that is printed if it is not

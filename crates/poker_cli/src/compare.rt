@@ -14,8 +14,8 @@ use acpc_game::Game;
 use card_set::{Memory, try_format};
 use command_words::{NotationName, PlainNotation};
 use convert_core::{Format, plays as plays_in};
+use hand_canon::Play;
 use hand_differences::{Difference, difference_text, first_difference};
-use hand_records::Play;
 use std::alloc::Global;
 
 /// How the hands of two files are compared.

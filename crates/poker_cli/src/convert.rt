@@ -8,7 +8,7 @@ ghost use Rattle.poker_cli.specs.FaultAnswers.{answer_said};
 use crate::answer::{Answer, answer_to_fault, done};
 use card_set::Memory;
 use convert_core::{Format, convert};
-use hand_records::Keep;
+use hand_canon::Keep;
 use std::alloc::Global;
 
 /// The answer with the hands in the bytes, written in the target notation.

@@ -7,7 +7,7 @@ ghost use Rattle.poker_cli.specs.Each.{Adds, AreOwnLines, AreReplayedAlone, IsOu
 use crate::each_verdict::{outcome_of, push_refusal_line, verdict_on};
 use card_set::Memory;
 use convert_core::{SoundRecord, SoundRecords};
-use hand_records::Trace;
+use hand_canon::Trace;
 use printed_hands::{push_begun_lines, push_whole_lines};
 use replay_core::{ReplayFault, legal_part};
 use std::alloc::Global;

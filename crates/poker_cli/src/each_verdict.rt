@@ -1,13 +1,12 @@
 //! The verdict on one hand, and its line if the hand is refused.
 ghost use Rattle.std.specs.Prelude.{◌≡◌, ◌++◌, IfOk, OnOk, string_bytes};
-ghost use Rattle.hand_records.specs.declared.record.Record.{Record as AnyRecord};
+ghost use Rattle.hand_canon.specs.declared.record.Record.{Record as AnyRecord};
 ghost use Rattle.poker_cli.specs.Each.{IsOutcomeOf, IsVerdictOn, refusal_line};
 
 use crate::judge::push_refused;
 use card_set::Memory;
 use convert_core::{Refusal, SoundRecord};
-use hand_canon::check_stated;
-use hand_records::Trace;
+use hand_canon::{Trace, check_stated};
 use replay_core::{ReplayFault, replay};
 use std::alloc::Global;
 

@@ -7,11 +7,11 @@ ghost use Rattle.poker_cli.specs.Game.{IsGameReply};
 ghost use Rattle.poker_cli.specs.FaultAnswers.{answer_said};
 
 use crate::answer::{Answer, answer_to_fault, answer_to_unspelled, done};
+use acpc_format::game_of;
 use acpc_game::write_game;
-use acpc_writing::game_of;
 use card_set::Memory;
 use convert_core::{Format, plays};
-use hand_records::Play;
+use hand_canon::Play;
 use std::alloc::Global;
 
 /// The answer with the game file of the first hand in the bytes.

@@ -2,12 +2,12 @@
 ghost use Rattle.std.specs.Prelude.{◌≡◌, ◌++◌, [], ◌∷◌, false, List, length, IfErr, IfOk, OnOk};
 ghost use Rattle.convert_core.specs.Judged.{IsPlaysFaultOf};
 ghost use Rattle.convert_core.specs.Verdicts.{legal_plays};
-ghost use Rattle.hand_records.specs.declared.trace.Play.{Play as AnyPlay};
+ghost use Rattle.hand_canon.specs.declared.trace.Play.{Play as AnyPlay};
 ghost use Rattle.poker_cli.specs.Played.{HasTakenPlays, HaveTaken};
 
 use card_set::Memory;
 use convert_core::{
-    HandIndex, JudgedPlay, PlaysFault, Refusal, SoundRecords, VerdictVisitor, judge_all
+    HandIndex, JudgedPlay, PlaysFault, Refusal, SoundRecords, VerdictVisitor, judge_all,
 };
 use std::alloc::Global;
 

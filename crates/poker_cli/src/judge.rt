@@ -10,7 +10,8 @@ ghost use Rattle.poker_cli.specs.FaultAnswers.{answer_said};
 use crate::answer::{Answer, answer_to_fault, done_with};
 use card_set::{Memory, TryWrite, try_write};
 use convert_core::{
-    Format, HandIndex, JudgedPlay, Notation, PlaysFault, Refusal, SoundRecords, VerdictVisitor, judge_all, read_records
+    Format, HandIndex, JudgedPlay, Notation, PlaysFault, Refusal, SoundRecords, VerdictVisitor,
+    judge_all, read_records,
 };
 use std::alloc::Global;
 

@@ -11,8 +11,8 @@ use crate::answer::{Answer, answer_to_fault, done, no_hand, refusal};
 use crate::status::Status;
 use card_set::{Memory, try_format};
 use convert_core::{Format, plays};
+use hand_canon::Play;
 use hand_options::{options, options_text};
-use hand_records::Play;
 use std::alloc::Global;
 
 /// The answer with the legal moves after the first events of the hand with this number.

@@ -5,14 +5,14 @@ ghost use Rattle.convert_core.specs.Judged.{IsPlaysFaultOf};
 ghost use Rattle.poker_cli.specs.AnswerParts.{IsAnswerTo, done};
 ghost use Rattle.poker_cli.specs.Texts.{IsTextOf};
 ghost use Rattle.poker_cli.specs.FaultAnswers.{answer_said};
-ghost use Rattle.printed_report.specs.SoFar.{IsReportSoFar};
-ghost use Rattle.printed_report.specs.Report.{report_said};
+ghost use Rattle.printed_hands.specs.SoFar.{IsReportSoFar};
+ghost use Rattle.printed_hands.specs.Report.{report_said};
 
 use crate::answer::{Answer, answer_to_fault, answer_with_text};
 use crate::hand_visitor::{HandVisitor, take_plays};
 use card_set::Memory;
 use convert_core::{Format, HandIndex, JudgedPlay, PlaysFault, SoundRecords, read_records};
-use printed_report::OpenReport;
+use printed_hands::OpenReport;
 use std::alloc::Global;
 
 impl HandVisitor for OpenReport {

@@ -4,7 +4,7 @@ ghost use Rattle.std.specs.Prelude.{◌≡◌, ◌<◌, ◌≤◌, ◌+◌, ◌+
 ghost use Rattle.acpc_view.specs.View.{views_text};
 ghost use Rattle.convert_core.specs.Formats.{HaveFault, SayRecords};
 ghost use Rattle.convert_core.specs.Judged.{IsPlaysFaultOf};
-ghost use Rattle.hand_records.specs.declared.trace.Play.{Play as AnyPlay};
+ghost use Rattle.hand_canon.specs.declared.trace.Play.{Play as AnyPlay};
 ghost use Rattle.poker_cli.specs.AnswerParts.{IsAnswerTo, done as done_said};
 ghost use Rattle.poker_cli.specs.Views.{AreMessages, AreSeen, AreViews, AreViewsOf, most_view_bytes, no_seat as no_seat_said};
 ghost use Rattle.poker_cli.specs.FaultAnswers.{answer_said};
@@ -18,7 +18,7 @@ use acpc_view::{views, views_len};
 use card_set::{Memory, TryExtend, try_format};
 use chip_ledger::Seat;
 use convert_core::{Format, HandIndex, JudgedPlay, PlaysFault, SoundRecords, plays, read_records};
-use hand_records::Play;
+use hand_canon::Play;
 use std::alloc::Global;
 
 // The most bytes of views.

@@ -7,9 +7,9 @@ use Rattle.chip_ledger.specs.declared.seat_row.SeatRow.{SeatRow}
 use Rattle.play_event.specs.CanonScript.{move_named, plain_move}
 use Rattle.play_event.specs.PlayedScript.{is_move}
 use Rattle.hand_canon.specs.LegalPlay.{IsTraceOfLegal}
-use Rattle.hand_records.specs.SoundRecord.{script_said}
-use Rattle.hand_records.specs.declared.record.Record.{Record}
-use Rattle.hand_records.specs.declared.trace.Trace.{Trace}
+use Rattle.hand_canon.specs.SoundRecord.{script_said}
+use Rattle.hand_canon.specs.declared.record.Record.{Record}
+use Rattle.hand_canon.specs.declared.trace.Trace.{Trace}
 use Rattle.phh_actions.specs.Written.{event_text}
 use Rattle.play_event.proofs.ChipLaws.{puts_within}
 use Rattle.play_event.specs.Chips.{chips_put}

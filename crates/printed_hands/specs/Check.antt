@@ -1,7 +1,7 @@
 -- What the command `check` prints for legal hands.
 use Rattle.std.specs.Prelude.{ℕ, ◌+◌, List, [], ◌∷◌, ◌++◌, length, codes}
 use Rattle.std.specs.Fmt.{decimal}
-use Rattle.hand_records.specs.declared.trace.Play.{Play}
+use Rattle.hand_canon.specs.declared.trace.Play.{Play}
 use Rattle.chip_ledger.specs.SeatRow.{amounts_in}
 use Rattle.chip_ledger.specs.AmountTexts.{spaced}
 

@@ -5,7 +5,7 @@ use Rattle.std.specs.Fmt.{decimal}
 use Rattle.chip_ledger.specs.declared.pots.Pot.{Pot}
 use Rattle.chip_ledger.specs.declared.seat_row.SeatRow.{SeatRow}
 use Rattle.chip_ledger.specs.PotRow.{pots_in, shares_in}
-use Rattle.hand_records.specs.declared.trace.Trace.{Trace}
+use Rattle.hand_canon.specs.declared.trace.Trace.{Trace}
 use Rattle.chip_ledger.specs.SeatRow.{amounts_in}
 use Rattle.chip_ledger.specs.AmountTexts.{spaced}
 

@@ -1,6 +1,6 @@
 -- What the command `replay` prints for legal hands.
 use Rattle.std.specs.Prelude.{ℕ, List}
-use Rattle.hand_records.specs.declared.trace.Play.{Play}
+use Rattle.hand_canon.specs.declared.trace.Play.{Play}
 use Rattle.printed_hands.specs.Check.{each_hand}
 use Rattle.printed_hands.specs.Steps.{replay_lines}
 

@@ -5,7 +5,7 @@ ghost use Rattle.printed_hands.specs.Check.{check_end, check_line};
 
 use crate::amounts::push_row;
 use card_set::{Memory, TryWrite, try_write};
-use hand_records::Play;
+use hand_canon::Play;
 
 /// Appends the line of the hand with this number: what each player finishes with.
 pub fn push_check_line(text: &mut String, number: u64, play: &Play) -> Result<(), Memory>

@@ -7,7 +7,7 @@ ghost use Rattle.printed_hands.specs.Ending.{divided, ending_lines, entries, lis
 use crate::amounts::push_row;
 use card_set::{Memory, TryWrite, try_write};
 use chip_ledger::{Pot, SeatRow};
-use hand_records::Trace;
+use hand_canon::Trace;
 
 /// Appends the last lines of a hand.
 pub fn push_ending(text: &mut String, trace: &Trace) -> Result<(), Memory>

@@ -8,10 +8,10 @@ use Rattle.chip_ledger.specs.PotRow.{plain_pots, plain_shares, pots_in, shares_i
 use Rattle.chip_ledger.specs.Pots.{PlainPot}
 use Rattle.chip_ledger.specs.Rakes.{first_rake_above, nets_of}
 use Rattle.chip_ledger.specs.SeatRow.{amount_of}
-use Rattle.hand_records.specs.declared.trace.Trace.{Trace}
+use Rattle.hand_canon.specs.declared.trace.Trace.{Trace}
 use Rattle.hand_canon.specs.LegalHand.{showdown_in}
 use Rattle.play_event.specs.TraceCore.{core_of}
-use Rattle.hand_records.specs.TraceRows.{core_said}
+use Rattle.hand_canon.specs.TraceRows.{core_said}
 use Rattle.hand_canon.specs.WholeTrace.{IsTraceOf}
 use Rattle.play_event.specs.declared.setup.Setup.{Setup}
 use Rattle.play_event.specs.Past.{Past, moves_of}

@@ -6,7 +6,7 @@ use Rattle.chip_ledger.specs.LiveRow.{flagged}
 use Rattle.chip_ledger.specs.SeatRow.{amount_of}
 use Rattle.hand_canon.specs.LegalHand.{showdown_in}
 use Rattle.play_event.specs.TraceCore.{core_of}
-use Rattle.hand_records.specs.TraceRows.{place_said}
+use Rattle.hand_canon.specs.TraceRows.{place_said}
 use Rattle.card_set.specs.declared.pick.Pick.{Pick}
 use Rattle.play_event.specs.declared.setup.Rules.{Rules}
 use Rattle.play_event.specs.declared.setup.Setup.{Setup}

@@ -10,7 +10,7 @@ use crate::fault::ReplayFault;
 use crate::hand_in_play::HandInPlay;
 use crate::playing::play_events;
 use card_set::Memory;
-use hand_records::Moves;
+use hand_canon::Moves;
 use play_event::{Rules, Script, Setup};
 use std::alloc::Global;
 use variant_table::{Variant, by_code};

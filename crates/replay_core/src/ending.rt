@@ -12,7 +12,7 @@ use crate::places::places_of;
 use crate::rows::{mucked_row, shown_row};
 use card_set::{CardRow, Memory};
 use chip_ledger::{LiveRow, SeatRow};
-use hand_records::{Moves, Places};
+use hand_canon::{Moves, Places};
 use play_event::HandRow;
 use std::alloc::Global;
 use variant_table::Variant;

@@ -3,7 +3,7 @@ ghost use Rattle.std.specs.Prelude.{◌≡◌, ◌+◌, ◌++◌, ◌≤◌, [],
 ghost use Rattle.card_places.specs.Ordered.{on_seats, on_street, on_streets};
 ghost use Rattle.card_places.specs.Plain.{place_of};
 ghost use Rattle.deal_core.specs.Standing.{StandsFor};
-ghost use Rattle.hand_records.specs.TraceRows.{place_said};
+ghost use Rattle.hand_canon.specs.TraceRows.{place_said};
 ghost use Rattle.play_event.specs.Past.{Past};
 ghost use Rattle.play_event.specs.Trace.{traced_place, traced_places};
 ghost use Rattle.play_event.specs.declared.setup.Setup.{Setup};
@@ -14,7 +14,7 @@ use card_places::DealtCard;
 use card_set::Memory;
 use chip_ledger::Seat;
 use deal_core::Cards;
-use hand_records::Places;
+use hand_canon::Places;
 use play_event::Place;
 use std::alloc::Global;
 use variant_table::Variant;

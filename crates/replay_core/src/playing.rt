@@ -20,7 +20,7 @@ use crate::ending::{HandAtEnd, at_end};
 use crate::fault::ReplayFault;
 use crate::hand_in_play::HandInPlay;
 use card_set::Memory;
-use hand_records::Moves;
+use hand_canon::Moves;
 use play_event::{Due, Event, Move, Rules, Script, Setup};
 use std::alloc::Global;
 use variant_table::Variant;

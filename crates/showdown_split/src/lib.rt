@@ -21,12 +21,12 @@ mod winners;
 
 use card_set::CardRow;
 use chip_ledger::{LiveRow, PotRow, RakeRow, ShareRow};
-use scoring::seat_scores;
 pub use laws::{no_winner_is_left_out, only_the_best_shown_hands_win, the_last_live_seat_wins};
 use net::net_of;
 use play_event::HandRow;
 use pot::shares_of;
 pub use rakes::first_rake_above;
+use scoring::seat_scores;
 use variant_table::Variant;
 
 /// In a pot that two or more seats may win, none of these seats is shown.

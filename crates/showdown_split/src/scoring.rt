@@ -20,7 +20,11 @@ use variant_table::Variant;
 
 /// The scores of the shown seats in a game: in its first order of hands, and in its second if it
 /// pays by two.
-pub fn seat_scores<V: Variant>(hands: &HandRow, board: &CardRow, shown: &LiveRow) -> (Scores, Scores)
+pub fn seat_scores<V: Variant>(
+    hands: &HandRow,
+    board: &CardRow,
+    shown: &LiveRow,
+) -> (Scores, Scores)
     requires { ArePlayable V.Award.HELD V.PICK hands.now board.now shown.now }
     ensures { AreScored V.CODE (showdown_of hands.now board.now shown.now)
         (points_of result.0) (points_of result.1) }

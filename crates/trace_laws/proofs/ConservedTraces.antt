@@ -13,7 +13,7 @@ use Rattle.chip_ledger.specs.Rakes.{chips_in}
 use Rattle.chip_ledger.specs.SeatRow.{total_of}
 use Rattle.play_event.specs.PlayedScript.{IsPlayed}
 use Rattle.hand_canon.specs.WholeTrace.{IsTraceOf}
-use Rattle.hand_records.specs.declared.trace.Trace.{Trace}
+use Rattle.hand_canon.specs.declared.trace.Trace.{Trace}
 use Rattle.play_event.specs.declared.setup.Rules.{Rules}
 use Rattle.play_event.specs.declared.setup.Setup.{Setup}
 use Rattle.play_event.specs.Said.{Said}

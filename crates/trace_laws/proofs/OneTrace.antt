@@ -16,11 +16,11 @@ use Rattle.play_event.specs.declared.setup.Setup.{Setup}
 use Rattle.play_event.specs.Past.{Past}
 use Rattle.play_event.specs.Played.{move_said}
 use Rattle.play_event.specs.Stakes.{finishing_stack}
-use Rattle.hand_records.specs.declared.trace.Trace.{Trace}
+use Rattle.hand_canon.specs.declared.trace.Trace.{Trace}
 use Rattle.play_event.specs.CanonScript.{plain_moves}
 use Rattle.hand_canon.specs.LegalHand.{showdown_in}
 use Rattle.play_event.specs.TraceCore.{TraceCore, core_of}
-use Rattle.hand_records.specs.TraceRows.{core_said, place_said}
+use Rattle.hand_canon.specs.TraceRows.{core_said, place_said}
 use Rattle.hand_canon.specs.WholeTrace.{HasSeats, HasShares, IsTraceOf}
 use Rattle.trace_laws.proofs.Readings.{move_same, place_same}
 use Rattle.trace_laws.proofs.SameRows.{flags_same, pot_rows_same}

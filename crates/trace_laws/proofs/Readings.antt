@@ -10,7 +10,7 @@ use Rattle.play_event.specs.declared.played.Place.{Place}
 use Rattle.play_event.specs.Past.{Act, Folded, Called, Raised, BroughtIn}
 use Rattle.play_event.specs.Played.{IsPlace, act_said, move_said}
 use Rattle.play_event.specs.Trace.{TracedPlace}
-use Rattle.hand_records.specs.TraceRows.{place_said}
+use Rattle.hand_canon.specs.TraceRows.{place_said}
 use Rattle.card_set.proofs.Options.{options_same}
 
 -- the act of a row, by its definition

@@ -27,7 +27,7 @@ use Rattle.showdown_split.proofs.Bests.{count_some}
 use Rattle.showdown_split.proofs.FirstRake.{have_rakes}
 use Rattle.showdown_split.proofs.Flagged.{is_flagged-flag, length-flagged, sum_for_each}
 use Rattle.showdown_split.proofs.Parts.{parts_total}
-use Rattle.hand_records.specs.declared.trace.Trace.{Trace}
+use Rattle.hand_canon.specs.declared.trace.Trace.{Trace}
 use Rattle.hand_canon.specs.LegalHand.{IsShareable, showdown_in}
 use Rattle.play_event.specs.TraceCore.{core_of}
 use Rattle.hand_canon.specs.WholeTrace.{IsTraceOf}

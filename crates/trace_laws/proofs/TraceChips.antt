@@ -13,7 +13,7 @@ use Rattle.play_event.specs.Past.{Move, Past, moves_of}
 use Rattle.play_event.specs.CurrentBet.{all_chips_put}
 use Rattle.play_event.specs.Seats.{all_seats}
 use Rattle.play_event.specs.Stakes.{dead_antes_of, pots_after, returned_after, stake_after, stakes_after}
-use Rattle.hand_records.specs.declared.trace.Trace.{Trace}
+use Rattle.hand_canon.specs.declared.trace.Trace.{Trace}
 use Rattle.hand_canon.specs.WholeTrace.{IsTraceOf}
 use Rattle.play_event.proofs.StakeLaws.{all_counted}
 

@@ -20,7 +20,7 @@ use Rattle.play_event.specs.Seats.{all_seats}
 use Rattle.play_event.specs.Stakes.{finishing_stack, returned_after}
 use Rattle.play_event.specs.ValidSetup.{IsValid}
 use Rattle.play_event.proofs.ChipLaws.{put_and_left}
-use Rattle.hand_records.specs.declared.trace.Trace.{Trace}
+use Rattle.hand_canon.specs.declared.trace.Trace.{Trace}
 use Rattle.hand_canon.specs.WholeTrace.{IsTraceOf}
 use Rattle.trace_laws.proofs.TraceChips.{pots_and_returns, returned_total}
 use Rattle.canon_laws.proofs.SameCore.{plain_again}

@@ -6,7 +6,7 @@ use Rattle.chip_ledger.specs.PotRow.{plain_pots, pots_in, shared_in}
 use Rattle.chip_ledger.specs.RakeRow.{rake_of}
 use Rattle.chip_ledger.specs.Rakes.{chips_in}
 use Rattle.chip_ledger.specs.SeatRow.{total_of}
-use Rattle.hand_records.specs.declared.trace.Trace.{Trace}
+use Rattle.hand_canon.specs.declared.trace.Trace.{Trace}
 use Rattle.play_event.specs.declared.setup.Setup.{Setup}
 use Rattle.play_event.specs.Past.{Past, moves_of}
 use Rattle.play_event.specs.CurrentBet.{all_chips_put}

@@ -17,7 +17,7 @@ ghost use Rattle.play_event.specs.declared.setup.Setup.{Setup};
 ghost use Rattle.hand_canon.specs.LegalHand.{showdown_in};
 ghost use Rattle.play_event.specs.TraceCore.{core_of};
 ghost use Rattle.hand_canon.specs.WholeTrace.{IsTraceOf};
-ghost use Rattle.hand_records.specs.declared.trace.Trace.{Trace};
+ghost use Rattle.hand_canon.specs.declared.trace.Trace.{Trace};
 ghost use Rattle.trace_laws.specs.Winners.{AllGoToBest};
 
 /// The pots of a whole trace, before rakes, and what is returned are together all chips that the

@@ -12,9 +12,9 @@ ghost use Rattle.play_event.specs.CanonScript.{canon_of};
 ghost use Rattle.play_event.specs.PlayedScript.{IsPlayed};
 ghost use Rattle.play_event.specs.TraceCore.{core_after, core_of};
 ghost use Rattle.hand_canon.specs.LegalHand.{IsLegalHand};
-ghost use Rattle.hand_records.specs.TraceRows.{place_said};
+ghost use Rattle.hand_canon.specs.TraceRows.{place_said};
 ghost use Rattle.hand_canon.specs.WholeTrace.{HasShares, IsTraceOf};
-ghost use Rattle.hand_records.specs.declared.trace.Trace.{Trace};
+ghost use Rattle.hand_canon.specs.declared.trace.Trace.{Trace};
 
 /// A past has at most one whole trace. Whole traces of two pasts under one setup are the same if
 /// and only if the pasts have the same places, moves, shown and mucked seats, pots and returns:

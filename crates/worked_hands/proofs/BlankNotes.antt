@@ -2,8 +2,8 @@
 use Rattle.std.specs.Prelude.{ℕ, ◌-◌, List, Option, None, replicate, slice_index_or, IfSome}
 use Rattle.std.proofs.Common.{subst, sym}
 use Rattle.chip_ledger.specs.Fillers.{index-replicate}
-use Rattle.hand_records.specs.declared.notes.Clock.{Clock}
-use Rattle.hand_records.specs.AllowedNotes.{AreAllowed, AreSeatNumbers, IsDayOf, IsName, IsNoteText, IsSeatCount, IsTime, IsWithin}
+use Rattle.hand_canon.specs.declared.notes.Clock.{Clock}
+use Rattle.hand_canon.specs.AllowedNotes.{AreAllowed, AreSeatNumbers, IsDayOf, IsName, IsNoteText, IsSeatCount, IsTime, IsWithin}
 use Rattle.worked_hands.specs.WrittenNotes.{no_notes}
 
 abbrev nobody : List (Option (List ℕ))

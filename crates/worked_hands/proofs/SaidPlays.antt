@@ -7,13 +7,13 @@ use Rattle.play_event.specs.declared.setup.Setup.{Setup}
 use Rattle.play_event.specs.Said.{Said}
 use Rattle.play_event.specs.ValidSetup.{IsValid}
 use Rattle.play_event.specs.PlayedScript.{IsWithinLimits}
-use Rattle.hand_records.specs.declared.notes.Notes.{Notes}
-use Rattle.hand_records.specs.declared.record.Record.{Record}
-use Rattle.hand_records.specs.declared.trace.Trace.{Trace}
-use Rattle.hand_records.specs.AllowedNotes.{AreAllowed}
+use Rattle.hand_canon.specs.declared.notes.Notes.{Notes}
+use Rattle.hand_canon.specs.declared.record.Record.{Record}
+use Rattle.hand_canon.specs.declared.trace.Trace.{Trace}
+use Rattle.hand_canon.specs.AllowedNotes.{AreAllowed}
 use Rattle.hand_canon.specs.LegalHand.{IsLegalHand}
 use Rattle.hand_canon.specs.Sound.{IsSound}
-use Rattle.hand_records.specs.SoundRecord.{script_said}
+use Rattle.hand_canon.specs.SoundRecord.{script_said}
 use Rattle.worked_hands.specs.PlayOutcomes.{HasTrace}
 use Rattle.worked_hands.specs.Plays.{SaysHand, play_of}
 

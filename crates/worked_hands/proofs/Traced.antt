@@ -6,9 +6,9 @@ use Rattle.chip_ledger.specs.SeatRow.{amount_of}
 use Rattle.play_event.specs.Said.{Said}
 use Rattle.play_event.specs.declared.setup.Setup.{Setup}
 use Rattle.play_event.specs.TraceCore.{TraceCore, core_after}
-use Rattle.hand_records.specs.TraceRows.{core_said}
+use Rattle.hand_canon.specs.TraceRows.{core_said}
 use Rattle.hand_canon.specs.WholeTrace.{HasSeats, HasShares}
-use Rattle.hand_records.specs.declared.trace.Trace.{Trace}
+use Rattle.hand_canon.specs.declared.trace.Trace.{Trace}
 use Rattle.worked_hands.specs.PlayOutcomes.{HasTrace}
 use Rattle.worked_hands.specs.TraceNumbers.{is_same_list, trace_numbers}
 use Rattle.worked_hands.proofs.SameNumbers.{numbers_tell}

@@ -4,7 +4,7 @@ use Rattle.std.proofs.Common.{refl}
 use Rattle.std.specs.Prelude.{true, false, [], ◌∷◌, ◌++◌, codes}
 use Rattle.play_event.specs.declared.played.Act.TheVariants as acts
 use Rattle.play_event.specs.Rows.{row_of}
-use Rattle.hand_records.specs.declared.trace.Trace.{Trace}
+use Rattle.hand_canon.specs.declared.trace.Trace.{Trace}
 use Rattle.worked_hands.specs.Setups.{antes_and_blinds, no_limit, pot_limit}
 use Rattle.worked_hands.specs.TraceRows.{flags_of, pot_of, pots_of, shares_of}
 use Rattle.worked_hands.specs.Traces.{checked, dealt_to, moved, on_board, p1, p2, p3}

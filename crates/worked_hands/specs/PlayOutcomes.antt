@@ -8,7 +8,7 @@ use Rattle.play_event.specs.Scripts.{has_early_end, past_at_end}
 use Rattle.worked_hands.specs.Outcomes.{AllLegal, AllLegalBy}
 use Rattle.play_event.specs.TraceCore.{core_after}
 use Rattle.play_event.specs.CanonScript.{canon_of}
-use Rattle.hand_records.specs.declared.trace.Trace.{Trace}
+use Rattle.hand_canon.specs.declared.trace.Trace.{Trace}
 use Rattle.hand_canon.specs.WholeTrace.{IsTraceOf}
 use Rattle.worked_hands.specs.TraceNumbers.{is_same_list, trace_numbers}
 

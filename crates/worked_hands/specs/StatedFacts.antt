@@ -2,7 +2,7 @@
 use Rattle.std.proofs.Common.{refl}
 use Rattle.std.specs.Prelude.{[], ◌∷◌, pos, negsuc, Some, None}
 use Rattle.play_event.specs.Rows.{row_of}
-use Rattle.hand_records.specs.declared.record.Stated.{Stated}
+use Rattle.hand_canon.specs.declared.record.Stated.{Stated}
 use Rattle.worked_hands.specs.TraceRows.{nets_of}
 
 -- nothing is stated

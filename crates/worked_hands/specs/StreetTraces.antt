@@ -4,7 +4,7 @@ use Rattle.std.proofs.Common.{refl}
 use Rattle.std.specs.Prelude.{true, false, [], ◌∷◌, ◌++◌, codes, Some}
 use Rattle.play_event.specs.declared.played.Act.TheVariants as acts
 use Rattle.play_event.specs.Rows.{row_of}
-use Rattle.hand_records.specs.declared.trace.Trace.{Trace}
+use Rattle.hand_canon.specs.declared.trace.Trace.{Trace}
 use Rattle.worked_hands.specs.Setups.{stud, triple_draw}
 use Rattle.worked_hands.specs.PlaySetups.{badugi, three_in_single_draw}
 use Rattle.worked_hands.specs.TraceRows.{flags_of, pot_of, pots_of, shares_of}

@@ -10,7 +10,7 @@ use Rattle.chip_ledger.specs.declared.shares.ShareRow.{ShareRow}
 use Rattle.chip_ledger.specs.declared.live_row.LiveRow.{LiveRow}
 use Rattle.chip_ledger.specs.declared.seat_row.SeatRow.{SeatRow}
 use Rattle.chip_ledger.specs.Fillers.{index-replicate, no_amounts, no_pot}
-use Rattle.hand_records.specs.declared.record.NetRow.{NetRow}
+use Rattle.hand_canon.specs.declared.record.NetRow.{NetRow}
 
 -- an entry past the end of a list is the filler
 pub behind : {X : Type 0} (xs : List X) (n : ℕ) (x : X) (k : ℕ)

@@ -9,7 +9,7 @@ use Rattle.play_event.specs.declared.played.Move.{Move}
 use Rattle.play_event.specs.declared.played.Place.{Place}
 use Rattle.play_event.specs.Rows.{row_of}
 use Rattle.play_event.specs.Said.{Said}
-use Rattle.hand_records.specs.declared.trace.Trace.{Trace}
+use Rattle.hand_canon.specs.declared.trace.Trace.{Trace}
 use Rattle.worked_hands.specs.Setups.{no_limit, single_draw}
 use Rattle.worked_hands.specs.Words.{call, deal, fold, muck, raise, show, slots_named, stand_pat}
 use Rattle.worked_hands.specs.TraceRows.{flags_of, pot_of, pots_of, seat_of, shares_of}

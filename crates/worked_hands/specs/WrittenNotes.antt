@@ -1,7 +1,7 @@
 -- Notes that are written out, one fact after another.
 use Rattle.std.specs.Prelude.{ℕ, List, ◌∷◌, Option, Some, None, replicate}
-use Rattle.hand_records.specs.NoteTable.{no_texts, notes_with}
-use Rattle.hand_records.specs.declared.notes.Notes.{Notes}
+use Rattle.hand_canon.specs.NoteTable.{no_texts, notes_with}
+use Rattle.hand_canon.specs.declared.notes.Notes.{Notes}
 
 -- nothing is noted
 abbrev pub no_notes : Notes

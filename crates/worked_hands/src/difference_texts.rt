@@ -2,7 +2,7 @@
 ghost use Rattle.std.specs.Prelude.{◌≡◌, None, Some, codes};
 ghost use Rattle.hand_differences.specs.DifferenceText.{difference_text};
 ghost use Rattle.hand_differences.specs.FirstDifference.{Antes, BetSizes, Blinds, Card, Move, Note, Rake, SeatCount, Shown, Stacks, Variant};
-ghost use Rattle.hand_records.specs.declared.notes.NoteName.TheVariants as names;
+ghost use Rattle.hand_canon.specs.declared.notes.NoteName.TheVariants as names;
 
 /// Each kind of difference in its words. The function does nothing: its contract is computed from
 /// the definition.

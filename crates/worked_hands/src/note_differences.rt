@@ -2,7 +2,7 @@
 //! from the definitions.
 ghost use Rattle.std.specs.Prelude.{◌≡◌, None, Some, codes};
 ghost use Rattle.hand_differences.specs.FirstDifference.{Note, note_difference};
-ghost use Rattle.hand_records.specs.declared.notes.NoteName.TheVariants as names;
+ghost use Rattle.hand_canon.specs.declared.notes.NoteName.TheVariants as names;
 ghost use Rattle.worked_hands.specs.OtherTraces.{hand_named, three_noted};
 ghost use Rattle.worked_hands.specs.WrittenNotes.{at_table, dated, named, no_notes, numbered, seated, timed};
 

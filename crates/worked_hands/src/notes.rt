@@ -1,7 +1,7 @@
 //! Notes of hands with three seats, allowed ones and others. Each function does nothing: its
 //! contract is computed from the definition of allowed notes.
 ghost use Rattle.std.specs.Prelude.{[], codes, None, Some, replicate};
-ghost use Rattle.hand_records.specs.AllowedNotes.{AreAllowed};
+ghost use Rattle.hand_canon.specs.AllowedNotes.{AreAllowed};
 ghost use Rattle.worked_hands.specs.WrittenNotes.{at_table, dated, named, no_notes, numbered, seated, timed};
 
 /// A text has 1 to 255 bytes.

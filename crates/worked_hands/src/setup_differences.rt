@@ -2,7 +2,7 @@
 //! the first difference.
 ghost use Rattle.std.specs.Prelude.{◌≡◌, None, Some};
 ghost use Rattle.hand_differences.specs.FirstDifference.{Antes, BetSizes, Blinds, Rake, SeatCount, Stacks, Variant};
-ghost use Rattle.hand_records.specs.declared.record.Record.{Record};
+ghost use Rattle.hand_canon.specs.declared.record.Record.{Record};
 ghost use Rattle.worked_hands.specs.OtherTraces.{between, greater_blind, greater_least_bet, more_chips, short_deck_antes, under, with_antes, with_dead_antes};
 ghost use Rattle.worked_hands.specs.Setups.{heads_up, no_limit, raked};
 ghost use Rattle.worked_hands.specs.Traces.{steal_trace};

@@ -3,8 +3,8 @@
 ghost use Rattle.std.specs.Prelude.{◌≡◌, codes, None, Some, replicate};
 ghost use Rattle.play_event.specs.HistoryRules.{history_rules};
 ghost use Rattle.hand_canon.specs.Sound.{IsSound};
-ghost use Rattle.hand_records.specs.SoundRecord.{script_said};
-ghost use Rattle.hand_records.specs.declared.record.Record.{Record};
+ghost use Rattle.hand_canon.specs.SoundRecord.{script_said};
+ghost use Rattle.hand_canon.specs.declared.record.Record.{Record};
 ghost use Rattle.worked_hands.specs.Setups.{greater_second_blind, no_limit};
 ghost use Rattle.worked_hands.specs.Words.{muck};
 ghost use Rattle.worked_hands.specs.Plays.{SaysHand, cut_short, early_raise, play_of};

@@ -2,7 +2,7 @@
 //! the first difference.
 ghost use Rattle.std.specs.Prelude.{◌≡◌, None, Some, codes};
 ghost use Rattle.hand_differences.specs.FirstDifference.{Card, Move, Shown};
-ghost use Rattle.hand_records.specs.declared.record.Record.{Record};
+ghost use Rattle.hand_canon.specs.declared.record.Record.{Record};
 ghost use Rattle.worked_hands.specs.WrongTraces.{cards_named, chip_from_p2, fold_forgotten, muck_shown};
 ghost use Rattle.worked_hands.specs.OtherTraces.{between, one_discard, other_card, with_flop};
 ghost use Rattle.worked_hands.specs.Traces.{checked_trace, steal_trace};

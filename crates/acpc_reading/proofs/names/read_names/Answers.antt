@@ -1,7 +1,7 @@
 use Rattle.std.proofs.Common.{◌≡◌, ℕ, Ok, ◌+◌, ◌-◌, ◌<◌, ◌≤◌, ◌∷◌, None, IfSome, slice_index_or, ap, subst, arith, length, take}
 use Rattle.std.proofs.lemmas.List.{length-set, take_more_set}
 use Rattle.std.proofs.lemmas.Result.{err_from_is_err_and}
-use Rattle.hand_records.specs.AllowedNotes.{IsName}
+use Rattle.hand_canon.specs.AllowedNotes.{IsName}
 use Rattle.acpc_reading.specs.Left.{parts_left}
 use Rattle.acpc_reading.specs.Names.{names_said}
 use Rattle.card_set.proofs.Entries.{set_each}

@@ -1,5 +1,5 @@
 use Rattle.std.proofs.Common.{◌≡◌, ℕ, ◌+◌, ◌<◌, ◌≤◌, length, take, None, IfSome, slice_index_or}
-use Rattle.hand_records.specs.AllowedNotes.{IsName}
+use Rattle.hand_canon.specs.AllowedNotes.{IsName}
 use Rattle.acpc_reading.specs.Left.{len_left, parts_left}
 use Rattle.acpc_reading.specs.Names.{names_after, names_said}
 use Rattle.acpc_reading.proofs.names.read_names.Given as goal

@@ -1,4 +1,4 @@
-use Rattle.hand_records.specs.declared.record.Record.{Record}
+use Rattle.hand_canon.specs.declared.record.Record.{Record}
 use Rattle.acpc_reading.proofs.MatchRecords.{sound_record}
 use Rattle.acpc_reading.proofs.record.record_of.Goals as goal
 

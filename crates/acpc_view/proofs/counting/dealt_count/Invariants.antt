@@ -1,7 +1,7 @@
 -- The cards so far, and those of the others, are all.
 use Rattle.std.proofs.Common.{◌≡◌, ◌≤◌, ◌+◌, drop, length, map}
 use Rattle.play_event.specs.CanonScript.{dealt_slots}
-use Rattle.hand_records.specs.TraceRows.{place_said}
+use Rattle.hand_canon.specs.TraceRows.{place_said}
 use Rattle.play_event.specs.Said.{seat_named}
 use Rattle.acpc_view.proofs.counting.dealt_count.Given as goal
 

@@ -2,7 +2,7 @@
 use Rattle.std.proofs.Common.{map, arith}
 use Rattle.card_set.proofs.Spelled.{length-spelling}
 use Rattle.play_event.specs.CanonScript.{dealt_slots}
-use Rattle.hand_records.specs.TraceRows.{place_said}
+use Rattle.hand_canon.specs.TraceRows.{place_said}
 use Rattle.play_event.specs.Said.{seat_named}
 use Rattle.acpc_view.proofs.counting.dealt_len.Goals as goal
 

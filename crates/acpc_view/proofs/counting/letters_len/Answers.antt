@@ -2,8 +2,8 @@
 use Rattle.std.proofs.Common.{map, take, sym, refl, arith}
 use Rattle.play_event.specs.CanonScript.{plain_moves}
 use Rattle.play_event.specs.Played.{move_said}
-use Rattle.acpc_writing.specs.Betting.{letters_on}
-use Rattle.acpc_writing.proofs.Letters.{may_add, put_next}
+use Rattle.acpc_format.specs.Betting.{letters_on}
+use Rattle.acpc_format.proofs.Letters.{may_add, put_next}
 use Rattle.acpc_view.proofs.LineLengths.{letter_sum}
 use Rattle.acpc_view.proofs.counting.letters_len.Goals as goal
 

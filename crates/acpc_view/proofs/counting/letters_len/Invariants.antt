@@ -2,8 +2,8 @@
 use Rattle.std.proofs.Common.{◌≡◌, ◌≤◌, ◌*◌, length, map, take}
 use Rattle.play_event.specs.CanonScript.{plain_moves}
 use Rattle.play_event.specs.Played.{move_said}
-use Rattle.acpc_writing.specs.Betting.{letters_on}
-use Rattle.acpc_writing.specs.Puts.{HavePut}
+use Rattle.acpc_format.specs.Betting.{letters_on}
+use Rattle.acpc_format.specs.Puts.{HavePut}
 use Rattle.acpc_view.proofs.counting.letters_len.Given as goal
 
 abbrev pub invariant-loop-played : goal.invariant-loop-played

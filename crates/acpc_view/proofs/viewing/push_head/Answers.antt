@@ -1,7 +1,7 @@
 -- The front of a line is made of its pieces.
 use Rattle.std.proofs.Common.{◌≡◌, List, ℕ, [], ◌∷◌, ◌++◌, ◌∙◌, ◌-◌, ap, append_assoc, codes, decimal}
 use Rattle.card_set.proofs.Results.{on_ok}
-use Rattle.acpc_writing.specs.Names.{hand_text}
+use Rattle.acpc_format.specs.Names.{hand_text}
 use Rattle.acpc_view.specs.View.{head_text}
 use Rattle.acpc_view.proofs.viewing.push_head.Goals as goal
 

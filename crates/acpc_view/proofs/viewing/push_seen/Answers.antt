@@ -2,7 +2,7 @@
 use Rattle.std.proofs.Common.{List, sym, subst, take}
 use Rattle.card_set.proofs.Results.{on_ok}
 use Rattle.play_event.specs.declared.played.Move.{Move}
-use Rattle.acpc_writing.specs.Puts.{HaveFewChips}
+use Rattle.acpc_format.specs.Puts.{HaveFewChips}
 use Rattle.acpc_view.proofs.Writing.{few_chips, seen_written}
 use Rattle.acpc_view.proofs.viewing.push_seen.Goals as goal
 

@@ -3,7 +3,7 @@ use Rattle.std.proofs.Common.{subst, sym, List}
 use Rattle.std.proofs.lemmas.List.Elements.{recursion_from_All}
 use Rattle.std.specs.List.{AllByRecursion}
 use Rattle.hand_canon.specs.Sound.{IsSound}
-use Rattle.hand_records.specs.declared.trace.Play.{Play}
+use Rattle.hand_canon.specs.declared.trace.Play.{Play}
 use Rattle.answer_table.proofs.made.file_made.Goals as goal
 
 pub write-requires-clause-sound : goal.write-requires-clause-sound

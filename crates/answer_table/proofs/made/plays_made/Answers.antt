@@ -5,9 +5,9 @@ use Rattle.std.proofs.lemmas.List.Elements.{All-cons, All-head, All-nil, All-tai
 use Rattle.std.proofs.lemmas.Result.{IfOk-weaker}
 use Rattle.first_fault.specs.declared.limits.TheConstants.{MOST_HANDS}
 use Rattle.hand_gen.specs.Sound.{IsSoundHand}
-use Rattle.hand_records.specs.declared.record.Record.{Record}
-use Rattle.hand_records.specs.declared.trace.Play.{Play}
-use Rattle.hand_records.specs.SoundRecord.{IsSoundRecord}
+use Rattle.hand_canon.specs.declared.record.Record.{Record}
+use Rattle.hand_canon.specs.declared.trace.Play.{Play}
+use Rattle.hand_canon.specs.SoundRecord.{IsSoundRecord}
 use Rattle.answer_table.proofs.made.plays_made.Goals as goal
 
 all_sound : (hands : List Record) → All IsSoundHand hands → All IsSoundRecord hands

@@ -2,9 +2,9 @@
 use Rattle.std.proofs.Common.{rules, ◌≡◌, List, None, subst}
 use Rattle.std.proofs.lemmas.List.Elements.{recursion_from_All}
 use Rattle.hand_canon.specs.Sound.{IsSound}
-use Rattle.hand_records.specs.SameHands.{kept_notes}
-use Rattle.hand_records.specs.WriteRefusals.{first_refusal}
-use Rattle.hand_records.specs.declared.trace.Play.{Play}
+use Rattle.hand_canon.specs.SameHands.{kept_notes}
+use Rattle.hand_canon.specs.WriteRefusals.{first_refusal}
+use Rattle.hand_canon.specs.declared.trace.Play.{Play}
 use Rattle.convert_core.proofs.KeptByChoice.{kept_back}
 use Rattle.convert_core.proofs.WrittenLines.{few_plays, of_file}
 use Rattle.convert_core.specs.Meaning.{AreReadBack}

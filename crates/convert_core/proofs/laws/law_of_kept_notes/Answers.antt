@@ -1,5 +1,5 @@
 -- If all notes can be expressed, the kept notes are these notes.
-use Rattle.hand_records.specs.SaidNotes.{notes_of}
+use Rattle.hand_canon.specs.SaidNotes.{notes_of}
 use Rattle.convert_core.proofs.laws.law_of_kept_notes.Goals as goal
 
 pub returns-clause-all : goal.returns-clause-all

@@ -1,5 +1,5 @@
 use Rattle.convert_core.specs.Meaning.{AreReadBack}
-use Rattle.hand_records.specs.SameHands.{kept_notes}
+use Rattle.hand_canon.specs.SameHands.{kept_notes}
 use Rattle.convert_core.proofs.Conversions.{converted_alone}
 use Rattle.convert_core.proofs.laws.law_of_legal_conversions.Goals as goal
 

@@ -4,8 +4,8 @@ use Rattle.std.proofs.lemmas.List.{nil_from_length}
 use Rattle.std.proofs.lemmas.List.Elements.{All-rest}
 use Rattle.first_fault.specs.declared.limits.TheConstants.{MOST_HANDS}
 use Rattle.std.specs.Vec.Iter.{into_iter_items}
-use Rattle.hand_records.specs.SoundRecord.{IsSoundRecord}
-use Rattle.hand_records.specs.declared.record.Record.{Record}
+use Rattle.hand_canon.specs.SoundRecord.{IsSoundRecord}
+use Rattle.hand_canon.specs.declared.record.Record.{Record}
 use Rattle.convert_core.proofs.Taken.{AreOnTheWay, at_end, has_room, one_on, refused_on}
 use Rattle.convert_core.proofs.taking.judge_all.Goals as goal
 
@@ -17,9 +17,11 @@ take_hand-requires-clause-begun g c =
 pub invariant_of-place : goal.invariant_of-place
 invariant_of-place g c =
     let left = into_iter_items c.next.new.self in
-    record { within = has_room g.T.VerdictVisitor.CONTINUES g.T.VerdictVisitor.KEEPS (g.T.VerdictVisitor.Took c.args.visitor.now c.loop-hand.visitor) c.args.records left c.in-Some.hand c.loop-hand.index _ c.loop-hand.kept.items
-    (subst (λ (rest : List Record). AreOnTheWay g.T.VerdictVisitor.CONTINUES g.T.VerdictVisitor.KEEPS (g.T.VerdictVisitor.Took c.args.visitor.now c.loop-hand.visitor) c.args.records rest c.loop-hand.index c.loop-hand.kept.items) c.in-Some.ensures.steps.0 c.loop-hand.invariant.way)
-    (subst (λ (hands : List Record). length hands ≤ MOST_HANDS) c.into_vec-hands.ensures.same c.into_vec-hands.ensures.few) }
+    record {
+      within = has_room g.T.VerdictVisitor.CONTINUES g.T.VerdictVisitor.KEEPS (g.T.VerdictVisitor.Took c.args.visitor.now c.loop-hand.visitor) c.args.records left c.in-Some.hand c.loop-hand.index _ c.loop-hand.kept.items
+          (subst (λ (rest : List Record). AreOnTheWay g.T.VerdictVisitor.CONTINUES g.T.VerdictVisitor.KEEPS (g.T.VerdictVisitor.Took c.args.visitor.now c.loop-hand.visitor) c.args.records rest c.loop-hand.index c.loop-hand.kept.items) c.in-Some.ensures.steps.0 c.loop-hand.invariant.way)
+          (subst (λ (hands : List Record). length hands ≤ MOST_HANDS) c.into_vec-hands.ensures.same c.into_vec-hands.ensures.few);
+    }
 
 pub returns-in-Err-clause-refused : goal.returns-in-Err-clause-refused
 returns-in-Err-clause-refused g c =

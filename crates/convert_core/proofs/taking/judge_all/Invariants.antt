@@ -1,7 +1,7 @@
 -- The verdicts on the records so far were visited; the others are left.
 use Rattle.std.proofs.Common.{◌≡◌, ◌+◌, All, length}
 use Rattle.std.specs.Vec.Iter.{into_iter_items}
-use Rattle.hand_records.specs.SoundRecord.{IsSoundRecord}
+use Rattle.hand_canon.specs.SoundRecord.{IsSoundRecord}
 use Rattle.convert_core.proofs.Taken.{AreOnTheWay}
 use Rattle.convert_core.proofs.taking.judge_all.Given as goal
 

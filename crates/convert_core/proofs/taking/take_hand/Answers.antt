@@ -4,8 +4,8 @@ use Rattle.convert_core.proofs.JudgedPlays.{judged_sound}
 use Rattle.convert_core.specs.Judged.{IsOneMorePlay}
 use Rattle.hand_canon.specs.LegalPlay.{IsLegalPlay}
 use Rattle.hand_canon.specs.Sound.{IsSound}
-use Rattle.hand_records.specs.SoundRecord.{IsSoundRecord}
-use Rattle.hand_records.specs.declared.trace.Play.{Play}
+use Rattle.hand_canon.specs.SoundRecord.{IsSoundRecord}
+use Rattle.hand_canon.specs.declared.trace.Play.{Play}
 use Rattle.convert_core.proofs.Taken.{last_is, now_taken}
 use Rattle.convert_core.proofs.taking.take_hand.Goals as goal
 

@@ -7,7 +7,7 @@ use Rattle.play_event.specs.Games.{street_count}
 use Rattle.play_event.specs.Said.{Said, said_of}
 use Rattle.play_event.specs.CanonScript.{canonical_script, deals_said, discards_said, moves_named, plain_moves, showdown_said, street_said}
 use Rattle.hand_canon.specs.RowTests.{said_on}
-use Rattle.hand_records.specs.TraceRows.{core_said}
+use Rattle.hand_canon.specs.TraceRows.{core_said}
 use Rattle.hand_canon.specs.SaidSoFar.{words_of}
 use Rattle.hand_canon.proofs.MoveRows.{moves_are}
 use Rattle.hand_canon.proofs.OneByOne.{flat_more}

@@ -1,7 +1,7 @@
 use Rattle.std.proofs.Common.{◌≡◌}
 use Rattle.std.specs.List.{flat_map, range_with_len}
 use Rattle.play_event.specs.CanonScript.{plain_moves, street_said}
-use Rattle.hand_records.specs.TraceRows.{core_said}
+use Rattle.hand_canon.specs.TraceRows.{core_said}
 use Rattle.hand_canon.specs.SaidSoFar.{words_of}
 use Rattle.hand_canon.proofs.canonical.canon.Given as goal
 

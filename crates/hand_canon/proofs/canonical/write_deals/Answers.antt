@@ -5,7 +5,7 @@ use Rattle.chip_ledger.specs.Seat.{seats_of}
 use Rattle.play_event.specs.SeatSlots.{slots_of_hand}
 use Rattle.card_set.specs.Row.{slots_of}
 use Rattle.play_event.specs.CanonScript.{deal_said, dealt_slots}
-use Rattle.hand_records.specs.TraceRows.{place_said}
+use Rattle.hand_canon.specs.TraceRows.{place_said}
 use Rattle.hand_canon.specs.SaidSoFar.{words_of}
 use Rattle.hand_canon.proofs.OneByOne.{seat_more}
 use Rattle.hand_canon.proofs.CanonParts.{deals_are}

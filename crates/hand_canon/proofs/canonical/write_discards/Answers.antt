@@ -5,7 +5,7 @@ use Rattle.std.specs.List.{flat_map, list_any}
 use Rattle.chip_ledger.specs.Seat.{seats_of}
 use Rattle.play_event.specs.CanonScript.{discarded_slots, plain_moves}
 use Rattle.hand_canon.specs.RowTests.{discards_from, is_fold_before}
-use Rattle.hand_records.specs.TraceRows.{core_said, place_said}
+use Rattle.hand_canon.specs.TraceRows.{core_said, place_said}
 use Rattle.hand_canon.specs.SaidSoFar.{words_of}
 use Rattle.hand_canon.proofs.OneByOne.{seat_more}
 use Rattle.hand_canon.proofs.CanonParts.{discards_are, not_reached}

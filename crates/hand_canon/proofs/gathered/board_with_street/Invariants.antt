@@ -1,7 +1,7 @@
 use Rattle.std.proofs.Common.{◌≡◌, ◌++◌, None, length, map}
 use Rattle.card_set.specs.Row.{slots_of}
 use Rattle.play_event.specs.CanonScript.{dealt_slots}
-use Rattle.hand_records.specs.TraceRows.{place_said}
+use Rattle.hand_canon.specs.TraceRows.{place_said}
 use Rattle.hand_canon.proofs.gathered.board_with_street.Given as goal
 
 -- the board's cards so far and those to come are the first ones and those of the street

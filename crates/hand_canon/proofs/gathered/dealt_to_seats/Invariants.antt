@@ -1,7 +1,7 @@
 use Rattle.std.proofs.Common.{◌≡◌, ◌≤◌, ◌++◌, ℕ, Some, length, map}
 use Rattle.play_event.specs.SeatSlots.{slots_of_hand}
 use Rattle.play_event.specs.CanonScript.{dealt_slots}
-use Rattle.hand_records.specs.TraceRows.{place_said}
+use Rattle.hand_canon.specs.TraceRows.{place_said}
 use Rattle.hand_canon.proofs.gathered.dealt_to_seats.Given as goal
 
 -- each seat's cards so far and those to come are all that it was dealt

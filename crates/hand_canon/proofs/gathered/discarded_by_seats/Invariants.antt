@@ -1,7 +1,7 @@
 use Rattle.std.proofs.Common.{◌≡◌, ◌≤◌, ◌++◌, ℕ, length, map}
 use Rattle.play_event.specs.SeatSlots.{slots_of_hand}
 use Rattle.play_event.specs.CanonScript.{discarded_slots}
-use Rattle.hand_records.specs.TraceRows.{place_said}
+use Rattle.hand_canon.specs.TraceRows.{place_said}
 use Rattle.hand_canon.proofs.gathered.discarded_by_seats.Given as goal
 
 -- each seat's discards so far and those to come are all that it discarded

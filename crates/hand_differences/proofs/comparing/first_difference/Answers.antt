@@ -1,7 +1,7 @@
 -- A difference outside the notes is reported first; after that the notes of hands with the same
 -- number of seats are compared.
 use Rattle.std.proofs.Common.{◌∙◌, ap, cond, sym, ℕ, Bool, None}
-use Rattle.hand_records.specs.SaidNotes.{notes_of, said_notes}
+use Rattle.hand_canon.specs.SaidNotes.{notes_of, said_notes}
 use Rattle.hand_differences.proofs.FirstOf.{none_then, or_first, or_later}
 use Rattle.hand_differences.specs.FirstDifference.{difference_said, first_difference, note_difference, play_difference}
 use Rattle.hand_differences.proofs.comparing.first_difference.Goals as goal

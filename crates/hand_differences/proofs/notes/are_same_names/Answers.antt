@@ -1,6 +1,6 @@
 -- If the names of a seat are the same, all are if those of the later seats are.
 use Rattle.std.proofs.Common.{◌∙◌, arith, sym}
-use Rattle.hand_records.specs.SaidNotes.{name_said}
+use Rattle.hand_canon.specs.SaidNotes.{name_said}
 use Rattle.hand_differences.proofs.FirstNumbers.{next_entry}
 use Rattle.hand_differences.proofs.NotesFound.{same_entry}
 use Rattle.hand_differences.specs.SameParts.{is_same_text}

@@ -1,7 +1,7 @@
 use Rattle.std.proofs.Common.{◌≡◌, ◌+◌, ◌-◌, map}
 use Rattle.std.specs.List.{range_with_len}
 use Rattle.chip_ledger.specs.Seat.{seats_of}
-use Rattle.hand_records.specs.SaidNotes.{name_said}
+use Rattle.hand_canon.specs.SaidNotes.{name_said}
 use Rattle.hand_differences.specs.SameParts.{are_same_entries, is_same_text}
 use Rattle.hand_differences.proofs.notes.are_same_names.Given as goal
 

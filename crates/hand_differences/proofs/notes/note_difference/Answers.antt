@@ -1,5 +1,5 @@
 use Rattle.std.proofs.Common.{◌∙◌, ap, sym, find, not, option_map}
-use Rattle.hand_records.specs.SaidNotes.{said_notes}
+use Rattle.hand_canon.specs.SaidNotes.{said_notes}
 use Rattle.hand_differences.specs.FirstDifference.{Note, is_same_note}
 use Rattle.hand_differences.proofs.notes.note_difference.Goals as goal
 

@@ -1,7 +1,7 @@
 use Rattle.std.proofs.Common.{◌+◌, ◌++◌, List, None, length, map, arith, sym, ◌∙◌, ap, length-append}
 use Rattle.card_set.specs.declared.card.Slot.{Slot}
 use Rattle.play_event.specs.CanonScript.{dealt_slots}
-use Rattle.hand_records.specs.TraceRows.{place_said}
+use Rattle.hand_canon.specs.TraceRows.{place_said}
 use Rattle.hand_equity.specs.Street.{board_slots}
 use Rattle.hand_equity.proofs.BoardSlots.{fewer, slots_more}
 use Rattle.hand_equity.proofs.gathered.board_up_to.Goals as goal

@@ -1,8 +1,8 @@
 -- The numbers are those of the only play of the file.
 use Rattle.std.proofs.Common.{◌≡◌, List, get_or, length, ap, subst, ◌∙◌}
 use Rattle.hand_canon.specs.Agreement.{pot_total_of}
-use Rattle.hand_records.specs.declared.trace.Play.{Play}
-use Rattle.phh_writing.specs.Spelled.{unspelled}
+use Rattle.hand_canon.specs.declared.trace.Play.{Play}
+use Rattle.phh_format.specs.Spelled.{unspelled}
 use Rattle.hand_gen.specs.Load.{IsInLogs, hands_spelled}
 use Rattle.hand_gen.proofs.counting.counts_of.Goals as goal
 

@@ -1,13 +1,13 @@
 -- The logs of the game can express the play, or they cannot.
 use Rattle.std.proofs.Common.{◌≡◌, ◌⊎◌, List, [], ◌∷◌, length, Some, sym, ap, subst, ◌∙◌}
-use Rattle.acpc_writing.specs.Line.{log_text}
-use Rattle.acpc_writing.specs.Spelled.{unspelled}
-use Rattle.hand_records.specs.declared.trace.Play.{Play}
-use Rattle.hand_records.specs.declared.writing.Keep.TheVariants as keeps
+use Rattle.acpc_format.specs.Line.{log_text}
+use Rattle.acpc_format.specs.Spelled.{unspelled}
+use Rattle.hand_canon.specs.declared.trace.Play.{Play}
+use Rattle.hand_canon.specs.declared.writing.Keep.TheVariants as keeps
 use Rattle.hand_gen.specs.Load.{fits}
 use Rattle.hand_gen.proofs.CountLaws.{refused_is, written_is}
 use Rattle.hand_gen.proofs.counting.in_logs_of.Goals as goal
-use Rattle.hand_records.specs.WriteRefusals.{IsOutOfMemory, first_refusal}
+use Rattle.hand_canon.specs.WriteRefusals.{IsOutOfMemory, first_refusal}
 
 pub returns-in-Ok : goal.returns-in-Ok
 returns-in-Ok c = λ play one game_is.

@@ -1,6 +1,6 @@
 -- One more play is counted.
 use Rattle.std.proofs.Common.{◌≡◌, ◌+◌, List, [], ◌∷◌, ◌++◌, ap, ◌∙◌}
-use Rattle.hand_records.specs.declared.trace.Play.{Play}
+use Rattle.hand_canon.specs.declared.trace.Play.{Play}
 use Rattle.hand_gen.proofs.LoadLaws.{one_play_more}
 use Rattle.hand_gen.proofs.loading.load.Goals as goal
 

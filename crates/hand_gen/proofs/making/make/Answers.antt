@@ -1,7 +1,7 @@
 -- One more hand.
 use Rattle.std.proofs.Common.{◌≡◌, ℕ, ◌+◌, List, [], ◌∷◌, ◌++◌, length, sym, ap, subst, ◌∙◌, arith, length-append}
 use Rattle.std.proofs.lemmas.List.Elements.{All-push, All-same}
-use Rattle.hand_records.specs.declared.record.Record.{Record}
+use Rattle.hand_canon.specs.declared.record.Record.{Record}
 use Rattle.hand_gen.specs.Made.{AreMadeFrom, IsMade, number_behind, number_behind_all}
 use Rattle.hand_gen.specs.Sound.{IsSoundHand}
 use Rattle.hand_gen.proofs.MadeLaws.{number_more, one_hand_more}

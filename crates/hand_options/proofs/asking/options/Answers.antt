@@ -1,7 +1,7 @@
 -- The events of a sound play are legal, and the player to act is known after each of them.
 use Rattle.std.proofs.Common.{refl, arith}
 use Rattle.std.proofs.lemmas.List.{length-map}
-use Rattle.hand_records.specs.SoundRecord.{script_said}
+use Rattle.hand_canon.specs.SoundRecord.{script_said}
 use Rattle.play_event.specs.Said.{said_of}
 use Rattle.play_laws.proofs.LegalScripts.{legal_script}
 use Rattle.hand_options.proofs.Asked.{seat_told}

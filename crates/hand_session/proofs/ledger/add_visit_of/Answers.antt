@@ -1,6 +1,6 @@
 -- The row of the name gets the visit.
 use Rattle.std.proofs.Common.{◌≡◌, ℕ, ◌≤◌, ◌-◌, ◌++◌, List, slice_set, sym, ap, subst, ◌∙◌, arith}
-use Rattle.report_layout.specs.Indexed.{AreIndexed}
+use Rattle.printed_hands.specs.Indexed.{AreIndexed}
 use Rattle.hand_session.specs.declared.player_sessions.PlayerSession.{PlayerSession}
 use Rattle.hand_session.specs.declared.steps.Step.{Step}
 use Rattle.hand_session.specs.Visits.{IsOfHands, MOST_OF_HAND, session_at, session_names, visit_seat, visit_steps, with_visit}

@@ -2,9 +2,9 @@
 use Rattle.std.proofs.Common.{◌≡◌, ◌≢◌, ℕ, ◌++◌, List, [], ◌∷◌, length, Bool, true, false, bytes_eq, Some, refl, sym, ap, subst, ◌∙◌, arith}
 use Rattle.std.specs.List.{list_any, position_from}
 use Rattle.std.proofs.lemmas.List.{length-map}
-use Rattle.report_layout.specs.Indexed.{AreIndexed}
-use Rattle.report_layout.specs.Names.{with_name}
-use Rattle.report_layout.proofs.Placed.{known_place, last_place}
+use Rattle.printed_hands.specs.Indexed.{AreIndexed}
+use Rattle.printed_hands.specs.Names.{with_name}
+use Rattle.printed_hands.proofs.Placed.{known_place, last_place}
 use Rattle.hand_session.specs.declared.player_sessions.PlayerSession.{PlayerSession}
 use Rattle.hand_session.specs.Visits.{session_names, sessions_with}
 use Rattle.hand_session.proofs.RowPlaces.{known_rows, names_with, new_rows}

@@ -6,9 +6,9 @@ use Rattle.card_set.proofs.Entries.{all_push}
 use Rattle.first_fault.proofs.Thread.{threads_on, thread_ends, thread_done}
 use Rattle.ohh_reading.specs.Reading.{hands_said, numbered_hand}
 use Rattle.ohh_reading.proofs.file.read_blocks.Goals as goal
-use Rattle.hand_records.specs.Histories.{IsHistory}
-use Rattle.hand_records.specs.Moves.{moves_of}
-use Rattle.hand_records.specs.PlainHands.{plain}
+use Rattle.hand_canon.specs.Histories.{IsHistory}
+use Rattle.hand_canon.specs.Moves.{moves_of}
+use Rattle.hand_canon.specs.PlainHands.{plain}
 
 pub returns-in_err-record-clause-said : goal.returns-in_err-record-clause-said
 returns-in_err-record-clause-said c =

@@ -5,9 +5,9 @@ use Rattle.first_fault.specs.Reading.{thread_from}
 use Rattle.first_fault.proofs.Thread.{behind}
 use Rattle.ohh_reading.specs.Reading.{hands_said, numbered_hand}
 use Rattle.ohh_reading.proofs.file.read_blocks.Given as goal
-use Rattle.hand_records.specs.Histories.{IsHistory}
-use Rattle.hand_records.specs.Moves.{moves_of}
-use Rattle.hand_records.specs.PlainHands.{plain}
+use Rattle.hand_canon.specs.Histories.{IsHistory}
+use Rattle.hand_canon.specs.Moves.{moves_of}
+use Rattle.hand_canon.specs.PlainHands.{plain}
 
 -- the hands so far and those of the blocks that are left are all of them
 abbrev pub invariant-loop-index : goal.invariant-loop-index

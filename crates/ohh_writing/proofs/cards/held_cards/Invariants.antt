@@ -1,7 +1,7 @@
 use Rattle.std.proofs.Common.{◌≡◌, ◌++◌, length, map}
 use Rattle.card_set.specs.Row.{slots_of}
 use Rattle.play_event.specs.CanonScript.{held_slots}
-use Rattle.hand_records.specs.TraceRows.{place_said}
+use Rattle.hand_canon.specs.TraceRows.{place_said}
 use Rattle.ohh_writing.proofs.cards.held_cards.Given as goal
 
 -- the cards so far and those to come are all that the seat holds

@@ -9,7 +9,7 @@ use Rattle.ohh_writing.proofs.Plain.{hand_plain}
 use Rattle.ohh_writing.proofs.lines.make_text.Goals as goal
 use Rattle.canon_laws.proofs.MoveCounts.{tidy_within}
 use Rattle.play_event.specs.Tidy.{IsTidy}
-use Rattle.hand_records.specs.SoundRecord.{script_said}
+use Rattle.hand_canon.specs.SoundRecord.{script_said}
 
 pub hand_value-requires : goal.hand_value-requires
 hand_value-requires c =

@@ -2,7 +2,7 @@ use Rattle.std.proofs.Common.{◌≡◌, ◌+◌, ◌++◌, ◌∙◌, Some, ap,
 use Rattle.std.specs.List.{flat_map}
 use Rattle.chip_ledger.specs.Seat.{seats_of}
 use Rattle.play_event.specs.CanonScript.{dealt_slots}
-use Rattle.hand_records.specs.TraceRows.{core_said, place_said}
+use Rattle.hand_canon.specs.TraceRows.{core_said, place_said}
 use Rattle.hand_canon.proofs.OneByOne.{seat_more}
 use Rattle.ohh_writing.specs.Actions.{action_said, deal_written}
 use Rattle.ohh_writing.proofs.shows.push_deals.Goals as goal

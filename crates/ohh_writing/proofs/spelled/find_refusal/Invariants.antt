@@ -1,7 +1,7 @@
 use Rattle.std.proofs.Common.{◌≡◌, ◌+◌, drop}
 use Rattle.ohh_writing.specs.Spelled.{unspelled}
 use Rattle.ohh_writing.proofs.spelled.find_refusal.Given as goal
-use Rattle.hand_records.specs.WriteRefusals.{refusal_from, first_refusal}
+use Rattle.hand_canon.specs.WriteRefusals.{refusal_from, first_refusal}
 
 -- no play so far is refused
 abbrev pub invariant-loop-index : goal.invariant-loop-index

@@ -4,9 +4,9 @@ use Rattle.std.proofs.lemmas.List.Sums.{sum_by_push}
 use Rattle.toml_parser.specs.Lexical.{skip_blank}
 use Rattle.toml.specs.Parse.{skip_bom}
 use Rattle.card_set.proofs.Entries.{all_push}
-use Rattle.hand_records.specs.Histories.{IsHistory}
-use Rattle.hand_records.specs.Moves.{moves_of}
-use Rattle.hand_records.specs.PlainHands.{plain}
+use Rattle.hand_canon.specs.Histories.{IsHistory}
+use Rattle.hand_canon.specs.Moves.{moves_of}
+use Rattle.hand_canon.specs.PlainHands.{plain}
 use Rattle.phh_reading.proofs.InTurn.{left_at_start, left_after, nothing_left, shorter}
 use Rattle.phh_reading.proofs.by_table.read_by_table.Goals as goal
 

@@ -7,9 +7,9 @@ use Rattle.toml.specs.Parse.{skip_bom}
 use Rattle.first_fault.specs.declared.limits.TheConstants.{MOST_FILE_MOVES, MOST_HANDS}
 use Rattle.phh_reading.proofs.InTurn.{IsLeft}
 use Rattle.phh_reading.proofs.by_table.read_by_table.Given as goal
-use Rattle.hand_records.specs.Histories.{IsHistory}
-use Rattle.hand_records.specs.Moves.{moves_of}
-use Rattle.hand_records.specs.PlainHands.{plain}
+use Rattle.hand_canon.specs.Histories.{IsHistory}
+use Rattle.hand_canon.specs.Moves.{moves_of}
+use Rattle.hand_canon.specs.PlainHands.{plain}
 
 -- however the rest is cut into tables, the hands so far and those of these tables are all of them
 abbrev pub invariant-loop-rest : goal.invariant-loop-rest

@@ -6,9 +6,9 @@ use Rattle.first_fault.specs.Reading.{thread_from}
 use Rattle.first_fault.proofs.Thread.{behind}
 use Rattle.phh_reading.specs.Reading.{hands_said, numbered_hand}
 use Rattle.phh_reading.proofs.file.read_tables.Given as goal
-use Rattle.hand_records.specs.Histories.{IsHistory}
-use Rattle.hand_records.specs.Moves.{moves_of}
-use Rattle.hand_records.specs.PlainHands.{plain}
+use Rattle.hand_canon.specs.Histories.{IsHistory}
+use Rattle.hand_canon.specs.Moves.{moves_of}
+use Rattle.hand_canon.specs.PlainHands.{plain}
 
 -- the hands so far and those of the tables that are left are all of them
 abbrev pub invariant-loop-index : goal.invariant-loop-index

@@ -2,7 +2,7 @@ use Rattle.std.proofs.Common.{◌≡◌, ℕ, ◌+◌, ◌<◌, ◌≤◌, lengt
 use Rattle.toml.specs.View.{view}
 use Rattle.first_fault.specs.Reading.{each_from}
 use Rattle.first_fault.proofs.EachItem.{with_front}
-use Rattle.hand_records.specs.AllowedNotes.{IsWithin}
+use Rattle.hand_canon.specs.AllowedNotes.{IsWithin}
 use Rattle.phh_reading.specs.declared.field_fault.FieldKey.TheVariants as keys
 use Rattle.phh_reading.specs.Fields.{at_item, number_said}
 use Rattle.phh_reading.specs.NoteFields.{numbers_from}

@@ -1,7 +1,7 @@
 -- The hands of both files are compared, or a fault inside the other file is reported.
 use Rattle.std.proofs.Common.{◌≡◌, IfOk, List, subst, sym}
 use Rattle.std.proofs.lemmas.Result.{IfOk-weaker}
-use Rattle.hand_records.specs.declared.trace.Play.{Play}
+use Rattle.hand_canon.specs.declared.trace.Play.{Play}
 use Rattle.poker_cli.specs.AnswerParts.{Answer}
 use Rattle.poker_cli.specs.Compare as answers
 use Rattle.poker_cli.specs.Compare.{IsComparedWith, compared}

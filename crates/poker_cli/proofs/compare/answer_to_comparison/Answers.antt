@@ -1,7 +1,7 @@
 -- The plays of the input are compared, or the answer says why there are none.
 use Rattle.std.proofs.Common.{List, subst}
 use Rattle.std.proofs.lemmas.Result.{IfOk-weaker}
-use Rattle.hand_records.specs.declared.trace.Play.{Play}
+use Rattle.hand_canon.specs.declared.trace.Play.{Play}
 use Rattle.poker_cli.specs.Compare.{IsComparedWith}
 use Rattle.poker_cli.specs.AnswerParts as parts
 use Rattle.poker_cli.specs.Compare as in_compare

@@ -1,7 +1,7 @@
 -- The lines of a legal hand are those of its trace.
 use Rattle.std.proofs.Common.{Result, subst}
 use Rattle.std.proofs.lemmas.Result.{on_ok_weaker}
-use Rattle.hand_records.specs.declared.trace.Trace.{Trace}
+use Rattle.hand_canon.specs.declared.trace.Trace.{Trace}
 use Rattle.poker_cli.specs.Each as each
 use Rattle.poker_cli.specs.Each.{IsOutcomeOf}
 use Rattle.printed_hands.specs.Steps.{replay_lines}

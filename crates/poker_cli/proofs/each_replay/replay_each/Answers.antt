@@ -1,7 +1,7 @@
 -- One hand after the other.
 use Rattle.std.proofs.Common.{List, ℕ, subst, sym, string_bytes, arith}
 use Rattle.std.proofs.lemmas.List.{take_all}
-use Rattle.hand_records.specs.declared.record.Record.{Record}
+use Rattle.hand_canon.specs.declared.record.Record.{Record}
 use Rattle.poker_cli.specs.Each.{AreReplayedAlone}
 use Rattle.poker_cli.proofs.EachHand.{none_replayed, one_more}
 use Rattle.poker_cli.proofs.each_replay.replay_each.Goals as goal

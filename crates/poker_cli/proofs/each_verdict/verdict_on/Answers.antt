@@ -1,6 +1,6 @@
 -- A legal hand agrees with what is stated, or differs from it first.
 use Rattle.std.proofs.Common.{Result, subst, sym}
-use Rattle.hand_records.specs.declared.trace.Trace.{Trace}
+use Rattle.hand_canon.specs.declared.trace.Trace.{Trace}
 use Rattle.poker_cli.specs.Each.{IsOutcomeOf}
 use Rattle.replay_core.specs.declared.fault.ReplayFault.{ReplayFault}
 use Rattle.poker_cli.proofs.each_verdict.verdict_on.Goals as goal

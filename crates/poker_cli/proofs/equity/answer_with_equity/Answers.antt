@@ -1,7 +1,7 @@
 -- The answer is made from the plays, or says why there are none.
 use Rattle.std.proofs.Common.{List, subst}
 use Rattle.std.proofs.lemmas.Result.{IfOk-weaker}
-use Rattle.hand_records.specs.declared.trace.Play.{Play}
+use Rattle.hand_canon.specs.declared.trace.Play.{Play}
 use Rattle.poker_cli.specs.AnswerParts as answers
 use Rattle.poker_cli.specs.Equity.{IsEquityAt}
 use Rattle.poker_cli.specs.FaultAnswers.{answer_said}

@@ -2,7 +2,7 @@
 use Rattle.std.proofs.Common.{◌≡◌, List, [], refl, subst}
 use Rattle.convert_core.proofs.Taken.{plays_are}
 use Rattle.convert_core.specs.Verdicts.{legal_plays}
-use Rattle.hand_records.specs.declared.trace.Play.{Play}
+use Rattle.hand_canon.specs.declared.trace.Play.{Play}
 use Rattle.poker_cli.proofs.hand_visitor.take_plays.Goals as goal
 
 -- there are none before the first hand

@@ -5,7 +5,7 @@ use Rattle.acpc_reading.proofs.HandLines as in_log
 use Rattle.acpc_reading.specs.Begins.{hand_lines}
 use Rattle.acpc_reading.specs.Logs.{HandSaid}
 use Rattle.acpc_reading.specs.RecordView.{record_said}
-use Rattle.hand_records.specs.PlainHands.{PlainHand, plain}
+use Rattle.hand_canon.specs.PlainHands.{PlainHand, plain}
 use Rattle.ohh_reading.proofs.BlockLines as in_blocks
 use Rattle.ohh_reading.specs.Begins.{block_lines}
 use Rattle.poker_cli.proofs.laws.law_of_lines.Goals as goal

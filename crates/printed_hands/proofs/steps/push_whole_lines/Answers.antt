@@ -1,7 +1,7 @@
 -- All events of the hand, and then its ending.
 use Rattle.std.proofs.Common.{◌++◌, ◌∙◌, List, ℕ, ap, append_assoc, string_bytes}
 use Rattle.std.proofs.lemmas.Result.{on_ok_weaker}
-use Rattle.hand_records.specs.SoundRecord.{script_said}
+use Rattle.hand_canon.specs.SoundRecord.{script_said}
 use Rattle.play_event.specs.Past.{Past}
 use Rattle.play_event.specs.Scripts.{past_at_end}
 use Rattle.printed_hands.specs.Ending.{ending_lines}

@@ -3,7 +3,7 @@ use Rattle.std.proofs.lemmas.Result.{IfOk-weaker}
 use Rattle.hand_canon.specs.Agreement.{HasBoundedPots}
 use Rattle.hand_canon.specs.LegalHand.{IsLegalHand}
 use Rattle.play_event.specs.Tidy.{IsTidy}
-use Rattle.hand_records.specs.TraceRows.{core_said}
+use Rattle.hand_canon.specs.TraceRows.{core_said}
 use Rattle.hand_canon.specs.WholeTrace.{IsTraceOf}
 use Rattle.play_event.specs.Scripts.{past_at_end}
 use Rattle.trace_laws.specs.Conserved.{IsConserved}

@@ -1,7 +1,7 @@
 -- The rows of the end agree with the past, and so do pots, shares and finishing stacks.
 use Rattle.std.proofs.Common.{sym, subst, ◌∙◌, arith}
 use Rattle.canon_laws.proofs.MoveCounts.{tidy_within}
-use Rattle.hand_records.specs.declared.trace.Trace.{Trace}
+use Rattle.hand_canon.specs.declared.trace.Trace.{Trace}
 use Rattle.play_event.specs.Tidy.{IsTidy}
 use Rattle.hand_canon.specs.WholeTrace.{IsTraceOf}
 use Rattle.play_event.specs.declared.code.Code.{Code}

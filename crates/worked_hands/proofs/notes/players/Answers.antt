@@ -3,8 +3,8 @@ use Rattle.std.specs.Prelude.{◌≡◌, ◌≤◌, ℕ, ◌∷◌, codes, None,
 use Rattle.std.proofs.Common.{ap, arith, lit≤, refl, suc, sym, zero, ◌++◌, ◌∙◌}
 use Rattle.std.proofs.lemmas.Fmt.{decimal_digit}
 use Rattle.chip_ledger.specs.Fillers.{index-replicate}
-use Rattle.hand_records.proofs.NoteTexts.{none_allowed}
-use Rattle.hand_records.specs.NoteTable.{no_texts}
+use Rattle.hand_canon.proofs.NoteTexts.{none_allowed}
+use Rattle.hand_canon.specs.NoteTable.{no_texts}
 use Rattle.worked_hands.proofs.BlankNotes.{allowed_with}
 use Rattle.worked_hands.proofs.notes.players.Goals as goal
 use Rattle.card_set.proofs.Numbers.{by_three}

@@ -16,7 +16,7 @@ use Rattle.hand_order.specs.Straights.{deciding_ranks, high_class}
 use Rattle.high_rank.specs.High as high
 use Rattle.high_rank.specs.HighLaw.{lawful_high}
 use Rattle.hand_canon.specs.LegalHand.{showdown_in}
-use Rattle.hand_records.specs.TraceRows.{core_said}
+use Rattle.hand_canon.specs.TraceRows.{core_said}
 use Rattle.worked_hands.specs.Setups.{antes_and_blinds, no_limit}
 use Rattle.worked_hands.specs.ShowScripts.{early_shows, named_at_showdown}
 use Rattle.worked_hands.specs.BoardTraces.{divided_trace, early_trace}

@@ -10,7 +10,7 @@ use Rattle.play_event.specs.Scripts.{with_event}
 use Rattle.std.specs.Prelude.{[], ◌∷◌}
 use Rattle.std.proofs.lemmas.Bool.{and_parts}
 use Rattle.hand_canon.specs.LegalHand.{showdown_in}
-use Rattle.hand_records.specs.TraceRows.{core_said}
+use Rattle.hand_canon.specs.TraceRows.{core_said}
 use Rattle.worked_hands.specs.Setups.{pot_limit, stud}
 use Rattle.worked_hands.specs.BoardTraces.{omaha_trace}
 use Rattle.worked_hands.specs.Scripts.{omaha_hand, stud_hand}

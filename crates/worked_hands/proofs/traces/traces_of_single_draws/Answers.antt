@@ -14,7 +14,7 @@ use Rattle.hand_order.specs.Straights.{deciding_ranks, high_class}
 use Rattle.low_rank.specs.DeuceSeven as deuce_seven
 use Rattle.low_rank.specs.LowLaw.{lawful_deuce_seven}
 use Rattle.hand_canon.specs.LegalHand.{showdown_in}
-use Rattle.hand_records.specs.TraceRows.{core_said}
+use Rattle.hand_canon.specs.TraceRows.{core_said}
 use Rattle.worked_hands.specs.Scripts.{folded_draw, mixed_draw}
 use Rattle.worked_hands.specs.PlaySetups.{three_in_single_draw}
 use Rattle.worked_hands.specs.StreetTraces.{folded_trace, mixed_trace}

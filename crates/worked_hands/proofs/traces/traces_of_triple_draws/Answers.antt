@@ -16,7 +16,7 @@ use Rattle.badugi_rank.specs.Badugi.{candidates}
 use Rattle.badugi_rank.specs.Badugi as badugi_order
 use Rattle.badugi_rank.specs.BadugiLaw.{lawful_badugi}
 use Rattle.hand_canon.specs.LegalHand.{showdown_in}
-use Rattle.hand_records.specs.TraceRows.{core_said}
+use Rattle.hand_canon.specs.TraceRows.{core_said}
 use Rattle.worked_hands.specs.Setups.{triple_draw}
 use Rattle.worked_hands.specs.Scripts.{badugi_hand, past_the_deck}
 use Rattle.worked_hands.specs.PlaySetups.{badugi}

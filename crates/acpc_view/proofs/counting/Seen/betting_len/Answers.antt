@@ -4,8 +4,8 @@ use Rattle.play_event.specs.CanonScript.{plain_moves}
 use Rattle.play_event.specs.Played.{move_said}
 use Rattle.std.proofs.lemmas.List.{length-take-le}
 use Rattle.play_event.specs.declared.played.Move.{Move}
-use Rattle.acpc_writing.specs.Betting.{letters_on}
-use Rattle.acpc_writing.specs.Puts.{HaveFewChips}
+use Rattle.acpc_format.specs.Betting.{letters_on}
+use Rattle.acpc_format.specs.Puts.{HaveFewChips}
 use Rattle.acpc_view.specs.Lengths.{seen_by}
 use Rattle.acpc_view.proofs.LineLengths.{betting_sum}
 use Rattle.acpc_view.proofs.Writing.{few_chips}

@@ -2,7 +2,7 @@
 use Rattle.std.proofs.Common.{List, None, length, map, sym, ap, ◌∙◌, arith}
 use Rattle.play_event.specs.CanonScript.{dealt_slots}
 use Rattle.card_set.specs.Spelling.{spelling}
-use Rattle.hand_records.specs.TraceRows.{core_said, place_said}
+use Rattle.hand_canon.specs.TraceRows.{core_said, place_said}
 use Rattle.play_event.specs.declared.played.Place.{Place}
 use Rattle.acpc_view.proofs.LineLengths.{board_not, board_there}
 use Rattle.acpc_view.proofs.counting.Seen.board_len.Goals as goal

@@ -1,7 +1,7 @@
 -- The hole cards of a seat count if they are seen.
 use Rattle.std.proofs.Common.{List, Some, length, map, sym, ap, ◌∙◌, arith}
 use Rattle.play_event.specs.CanonScript.{dealt_slots}
-use Rattle.hand_records.specs.TraceRows.{core_said, place_said}
+use Rattle.hand_canon.specs.TraceRows.{core_said, place_said}
 use Rattle.play_event.specs.declared.played.Place.{Place}
 use Rattle.acpc_view.specs.Lengths.{hole_of}
 use Rattle.acpc_view.proofs.LineLengths.{hole_seen, hole_unseen}

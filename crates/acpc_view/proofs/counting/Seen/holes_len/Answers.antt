@@ -1,7 +1,7 @@
 -- One more seat.
 use Rattle.std.proofs.Common.{◌≡◌, ℕ, length, ap, ◌∙◌, arith}
-use Rattle.acpc_writing.specs.Cards.{hole_text, holes_text}
-use Rattle.acpc_writing.specs.Seats.{for_seats}
+use Rattle.acpc_format.specs.Cards.{hole_text, holes_text}
+use Rattle.acpc_format.specs.Seats.{for_seats}
 use Rattle.acpc_view.specs.Lengths.{seen_by}
 use Rattle.acpc_view.proofs.LineLengths.{seat_sum}
 use Rattle.acpc_view.proofs.counting.Seen.holes_len.Goals as goal

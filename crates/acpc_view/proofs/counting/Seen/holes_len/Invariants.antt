@@ -1,7 +1,7 @@
 -- The hole cards of the seats so far are counted.
 use Rattle.std.proofs.Common.{◌≡◌, ◌≤◌, ◌*◌, length}
-use Rattle.acpc_writing.specs.Cards.{hole_text}
-use Rattle.acpc_writing.specs.Seats.{for_seats}
+use Rattle.acpc_format.specs.Cards.{hole_text}
+use Rattle.acpc_format.specs.Seats.{for_seats}
 use Rattle.acpc_view.specs.Lengths.{seen_by}
 use Rattle.acpc_view.proofs.counting.Seen.holes_len.Given as goal
 

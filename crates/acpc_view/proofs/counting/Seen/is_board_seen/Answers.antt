@@ -1,10 +1,10 @@
 -- A board is seen if it has begun and is there.
 use Rattle.std.proofs.Common.{List, map, sym, ap, ◌∙◌}
-use Rattle.hand_records.specs.TraceRows.{core_said, place_said}
+use Rattle.hand_canon.specs.TraceRows.{core_said, place_said}
 use Rattle.play_event.specs.Played.{move_said}
 use Rattle.play_event.specs.declared.played.Move.{Move}
 use Rattle.play_event.specs.declared.played.Place.{Place}
-use Rattle.acpc_writing.specs.Rounds.{has_board}
+use Rattle.acpc_format.specs.Rounds.{has_board}
 use Rattle.acpc_view.specs.View.{has_begun}
 use Rattle.acpc_view.proofs.LineLengths.{board_seen_else, board_seen_then}
 use Rattle.acpc_view.proofs.counting.Seen.is_board_seen.Goals as goal

@@ -2,7 +2,7 @@
 use Rattle.std.proofs.Common.{List, ap, length, take, sym, subst, ◌∙◌, arith}
 use Rattle.std.proofs.lemmas.List.{length-take-le}
 use Rattle.play_event.specs.declared.played.Move.{Move}
-use Rattle.acpc_writing.specs.Puts.{HaveFewChips}
+use Rattle.acpc_format.specs.Puts.{HaveFewChips}
 use Rattle.acpc_view.proofs.Writing.{few_chips}
 use Rattle.acpc_view.specs.Lengths.{seen_by}
 use Rattle.acpc_view.proofs.LineLengths.{round_none, round_sum}

@@ -3,7 +3,7 @@ use Rattle.std.proofs.Common.{◌≡◌, true, List, [], ◌∷◌, ◌++◌, le
 use Rattle.std.specs.Prelude.{OnOk}
 use Rattle.convert_core.specs.Formats.{meaning_of}
 use Rattle.convert_core.specs.declared.format.Format.{Format}
-use Rattle.hand_records.specs.declared.trace.Play.{Play}
+use Rattle.hand_canon.specs.declared.trace.Play.{Play}
 use Rattle.convert_core.proofs.format.FormatNotation.push_line.Goals as goal
 
 pub returns-in-Acpc-clause-line : goal.returns-in-Acpc-clause-line

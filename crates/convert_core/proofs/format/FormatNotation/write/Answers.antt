@@ -3,7 +3,7 @@ use Rattle.std.proofs.Common.{◌≡◌, ◌⊎◌, None, Some, IfOk, subst, sym
 use Rattle.std.specs.Prelude.{IfErr, OnOk}
 use Rattle.convert_core.specs.Formats.{meaning_of}
 use Rattle.convert_core.specs.declared.format.Format.{Format}
-use Rattle.hand_records.specs.WriteRefusals.{IsOutOfMemory, first_refusal}
+use Rattle.hand_canon.specs.WriteRefusals.{IsOutOfMemory, first_refusal}
 use Rattle.convert_core.proofs.format.FormatNotation.write.Goals as goal
 
 pub returns-in-Phh-clause-spell : goal.returns-in-Phh-clause-spell

@@ -1,7 +1,7 @@
 -- One more hand is written, or nothing is if one was refused before.
 use Rattle.std.proofs.Common.{◌++◌, ◌∷◌, [], ◌+◌, Some, refl, subst, sym, ◌∙◌}
-use Rattle.hand_records.specs.declared.trace.Play.{Play}
-use Rattle.hand_records.specs.declared.writing.WriteRefusal.TheVariants as refusals
+use Rattle.hand_canon.specs.declared.trace.Play.{Play}
+use Rattle.hand_canon.specs.declared.writing.WriteRefusal.TheVariants as refusals
 use Rattle.convert_core.proofs.Taken.{all_counted}
 use Rattle.convert_core.proofs.WrittenLines.{behind_refused, none_is, now_refused, now_spelled}
 use Rattle.convert_core.specs.Lines.{IsWritten}

@@ -1,5 +1,5 @@
 use Rattle.std.proofs.Common.{◌∙◌, ap, not, sym}
-use Rattle.hand_records.specs.SaidNotes.{said_notes}
+use Rattle.hand_canon.specs.SaidNotes.{said_notes}
 use Rattle.hand_differences.proofs.NotesFound.{passed_over}
 use Rattle.hand_differences.specs.FirstDifference.{is_same_note}
 use Rattle.hand_differences.proofs.notes.BothNotes.+first_other.Goals as goal

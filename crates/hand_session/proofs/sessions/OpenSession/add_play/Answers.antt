@@ -1,7 +1,7 @@
 -- One more hand.
 use Rattle.std.proofs.Common.{◌≡◌, ℕ, ◌+◌, ◌-◌, cond, List, [], ◌∷◌, ◌++◌, map, fold, sum_by, length, length-append, sym, ap, subst, ◌∙◌, arith}
 use Rattle.std.proofs.lemmas.List.{length-map, map-append}
-use Rattle.report_layout.specs.Names.{with_name}
+use Rattle.printed_hands.specs.Names.{with_name}
 use Rattle.hand_session.specs.declared.steps.Step.{Step}
 use Rattle.hand_session.specs.Hands.{Hand, hand_of}
 use Rattle.hand_session.specs.Sessions.{names_among, names_of, session_of_name, steps_after}

@@ -3,7 +3,7 @@ use Rattle.std.proofs.Common.{◌≡◌, map, sym, subst, ◌∙◌}
 use Rattle.hand_session.specs.Hands.{hand_of}
 use Rattle.hand_session.specs.Sessions.{all_seated, names_of, session_of, session_of_name}
 use Rattle.hand_session.specs.Visits.{session_names}
-use Rattle.report_layout.proofs.Distinct.{AreDistinct}
+use Rattle.printed_hands.proofs.Distinct.{AreDistinct}
 use Rattle.hand_session.proofs.SeatNames.{distinct_names}
 use Rattle.hand_session.proofs.RowUpdates.{found_rows}
 use Rattle.hand_session.proofs.sessions.OpenSession.close.Goals as goal

@@ -1,6 +1,6 @@
 -- A session of no hands.
 use Rattle.std.proofs.Common.{List, ap, sym, subst, refl, arith}
-use Rattle.report_layout.specs.Indexed.{AreIndexed}
+use Rattle.printed_hands.specs.Indexed.{AreIndexed}
 use Rattle.hand_session.specs.declared.player_sessions.PlayerSession.{PlayerSession}
 use Rattle.hand_session.specs.Visits.{session_at, session_names}
 use Rattle.hand_session.proofs.HandByHand.{within_none}

@@ -2,7 +2,7 @@
 use Rattle.std.proofs.Common.{List, arith, refl, subst, sym, ◌∙◌}
 use Rattle.convert_core.proofs.Taken.{all_counted, legal_more}
 use Rattle.convert_core.specs.Verdicts.{legal_plays}
-use Rattle.hand_records.specs.declared.trace.Play.{Play}
+use Rattle.hand_canon.specs.declared.trace.Play.{Play}
 use Rattle.poker_cli.proofs.JudgedLines.{legal_few}
 use Rattle.poker_cli.proofs.hand_visitor.LegalPlaysVerdictVisitor.take.Goals as goal
 

@@ -1,7 +1,7 @@
 -- The lines of one more hand.
 use Rattle.std.proofs.Common.{◌++◌, ◌+◌, ap, string_bytes, ◌∙◌}
 use Rattle.std.proofs.lemmas.Result.{on_ok_weaker}
-use Rattle.hand_records.specs.declared.trace.Play.{Play}
+use Rattle.hand_canon.specs.declared.trace.Play.{Play}
 use Rattle.printed_hands.specs.Steps.{replay_lines}
 use Rattle.poker_cli.proofs.PrintedLines.{now_printed}
 use Rattle.poker_cli.proofs.replay.ReplayLinesHandVisitor.take_play.Goals as goal

@@ -1,0 +1,12 @@
+use Rattle.std.proofs.Common.{◌≡◌, ◌++◌, drop, take}
+use Rattle.std.specs.List.{AllByRecursion}
+use Rattle.acpc_format.specs.Line.{lines_from, log_text}
+use Rattle.acpc_format.specs.Texts.{HasTexts}
+use Rattle.acpc_format.proofs.log.write.Given as goal
+
+-- what is written and the plays to come are all lines, and the names of the plays so far are texts
+abbrev pub invariant-loop-place : goal.invariant-loop-place
+invariant-loop-place l = record {
+  written : l.out.items ++ lines_from l.game.no_limit l.place (drop l.place l.plays) ≡ log_text l.game.no_limit l.plays;
+  texts : AllByRecursion HasTexts (take l.place l.plays);
+}

@@ -1,0 +1,44 @@
+//! The chips that each seat has put, while the moves of a hand are walked through.
+ghost use Rattle.std.specs.Prelude.{◌≡◌, ◌≤◌, ◌<◌, ◌+◌, ◌-◌, [], ◌∷◌, List, slice_index};
+ghost use Rattle.chip_ledger.specs.declared.seat_row.TheConstants.{MOST_AMOUNT};
+ghost use Rattle.play_event.specs.CanonScript.{plain_move};
+ghost use Rattle.play_event.specs.Chips as chips;
+ghost use Rattle.play_event.specs.Past.{Move as PlainMove};
+ghost use Rattle.play_event.specs.Played.{move_said};
+ghost use Rattle.play_event.specs.declared.setup.Setup.{Setup as AnySetup};
+ghost use Rattle.acpc_format.specs.Puts.{HavePut};
+
+use play_event::{Move, Setup};
+
+/// The chips that each seat has put before the first move. Seat 1 is at index 0.
+pub fn posted_chips(setup: &Setup) -> [u64; 10]
+    ensures { HavePut setup.now [] result }
+{
+    let mut put = [0; 10];
+    for index in 0..10 {
+        put[index] = posted(setup, index);
+    }
+    put
+}
+
+// The chips that the seat at an index posts: its ante, and its blind as far as the rest of its
+// stack goes.
+fn posted(setup: &Setup, index: usize) -> u64
+    requires { index < 10 }
+    ensures { result ≡ chips.posted setup.now (index + 1) }
+{
+    let ante = setup.antes.amounts[index];
+    let rest = setup.stacks.amounts[index].saturating_sub(ante);
+    ante + setup.blinds.amounts[index].min(rest)
+}
+
+/// Adds the chips of a move to those of its seat.
+pub fn add(put: &mut [u64; 10], played: Move)
+    requires { slice_index put.old (played.seat.number - 1) + (played.to - played.from)
+        ≤ MOST_AMOUNT }
+    ensures { (setup : AnySetup) (moves : List PlainMove) → HavePut setup moves put.old
+        → HavePut setup (plain_move (move_said played) ∷ moves) put.new }
+{
+    let index = played.seat.number as usize - 1;
+    put[index] += played.to.saturating_sub(played.from);
+}

@@ -1,0 +1,44 @@
+//! Finds the first fact of a play that the logs of a game cannot write.
+ghost use Rattle.std.specs.Prelude.{◌≡◌, ◌≤◌, length};
+ghost use Rattle.first_fault.specs.declared.limits.TheConstants.{MOST_HANDS};
+ghost use Rattle.acpc_format.specs.Spelled.{unspelled};
+ghost use Rattle.hand_canon.specs.WriteRefusals.{first_refusal};
+
+use crate::fits::find_other_setup;
+use crate::notes::find_other_note;
+use crate::played::find_other_play;
+use acpc_game::Game;
+use hand_canon::{Keep, Play, Unspelled, WriteRefusal};
+
+/// The refusal of the first play that the logs of a game cannot write. Hands are numbered from 1.
+pub fn find_refusal(game: &Game, plays: &[Play], keep: Keep) -> Option<WriteRefusal>
+    requires { length plays.now ≤ MOST_HANDS }
+    ensures { result ≡ first_refusal (unspelled game.now keep) plays.now }
+{
+    for (index, play) in plays.iter().enumerate() {
+        if let Some(fact) = spells(game, play, keep) {
+            return Some(WriteRefusal::Unspelled {
+                hand: index as u32 + 1,
+                fact,
+            });
+        }
+    }
+    None
+}
+
+/// The first fact of the play that the logs of this game cannot write. Notes count only if all of
+/// them are to be kept.
+#[tactic(auto, unfolding(crate::specs::Spelled::unspelled))]
+pub fn spells(game: &Game, play: &Play, keep: Keep) -> Option<Unspelled>
+    ensures { result ≡ unspelled game.now keep play.now }
+{
+    let setup = find_other_setup(game, &play.trace.setup);
+    if setup.is_some() {
+        return setup;
+    }
+    let played = find_other_play(game, &play.trace);
+    if played.is_some() {
+        return played;
+    }
+    find_other_note(&play.hand.notes, keep)
+}

@@ -1,8 +1,0 @@
-use Rattle.std.proofs.Common.{◌≡◌, ◌+◌, drop}
-use Rattle.acpc_writing.specs.Spelled.{unspelled}
-use Rattle.acpc_writing.proofs.spelled.find_refusal.Given as goal
-use Rattle.hand_records.specs.WriteRefusals.{refusal_from, first_refusal}
-
--- no play so far is refused
-abbrev pub invariant-loop-index : goal.invariant-loop-index
-invariant-loop-index l = refusal_from (unspelled l.game l.keep) (l.index + 1) (drop l.index l.plays) ≡ first_refusal (unspelled l.game l.keep) l.plays

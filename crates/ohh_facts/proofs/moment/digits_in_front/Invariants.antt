@@ -1,7 +1,0 @@
-use Rattle.std.proofs.Common.{◌≡◌, ℕ, ◌<◌, get_or, true}
-use Rattle.std.specs.Char.{is_digit}
-use Rattle.ohh_facts.proofs.moment.digits_in_front.Given as goal
-
--- the characters so far are digits
-abbrev pub invariant-loop-index : goal.invariant-loop-index
-invariant-loop-index l = (k : ℕ) → k < l.index → is_digit (get_or l.text k 0) 10 ≡ true

@@ -1,7 +1,0 @@
-use Rattle.std.proofs.Common.{arith}
-use Rattle.std.specs.Char.{is_digit}
-use Rattle.std.proofs.lemmas.List.Sums.{prefix_len-le-length}
-use Rattle.ohh_facts.proofs.moment.read_fraction.Goals as goal
-
-pub split_at-requires-2 : goal.split_at-requires-2
-split_at-requires-2 c = omega (arith, c.digits_in_front-count.ensures, prefix_len-le-length (λ sign. is_digit sign 10) c.split_at.result.1.now)

@@ -1,0 +1,89 @@
+//! Writes plays as the bytes of their document.
+ghost use Rattle.std.specs.Prelude.{◌≡◌, ◌⊎◌, ◌≤◌, [], None, Some, length, IfOk, IfErr, OnOk};
+ghost use Rattle.std.specs.List.{AllByRecursion};
+ghost use Rattle.toml.specs.View.{table_view};
+ghost use Rattle.hand_canon.specs.Sound.{IsSound};
+ghost use Rattle.first_fault.specs.declared.limits.TheConstants.{MOST_HANDS};
+ghost use Rattle.phh_format.specs.Document.{Spells, document, hand_table};
+ghost use Rattle.phh_format.specs.Spelled.{unspelled};
+ghost use Rattle.hand_canon.specs.WriteRefusals.{IsOutOfMemory, first_refusal};
+
+use crate::members::put;
+use crate::notes::put_notes;
+use crate::played::put_trace;
+use crate::setup::put_setup;
+use crate::spelled::find_refusal;
+use card_set::{Memory, displayed};
+use hand_canon::{Keep, Play, WriteRefusal};
+use std::alloc::Global;
+use toml::ser::Error;
+use toml::{Table, Value};
+
+/// The bytes of the document of some plays: one hand is its table, several are under the keys 1, 2
+/// and so on, and no hands are no bytes. Nothing is written if the format cannot write one of them.
+/// It can write every note, so the choice of notes does not matter.
+pub fn write(alloc: Global, plays: &[Play], keep: Keep) -> Result<Vec<u8>, WriteRefusal>
+    requires few { length plays.now ≤ MOST_HANDS }
+    requires sound { AllByRecursion IsSound plays.now }
+    ensures written { IfOk result (λ bytes. Spells plays.now bytes.items) }
+    ensures nothing { plays.now ≡ [] → IfOk result (λ bytes. bytes.items ≡ []) }
+    ensures spelled { OnOk result (first_refusal unspelled plays.now ≡ None) }
+    ensures refused { IfErr result (λ refusal. IsOutOfMemory refusal
+        ⊎ (first_refusal unspelled plays.now ≡ Some refusal)) }
+{
+    if let Some(refusal) = find_refusal(plays, keep) {
+        return Err(refusal);
+    }
+    if plays.is_empty() {
+        return Ok(Vec::new(alloc));
+    }
+    let table = match make_document(alloc, plays) {
+        Ok(table) => table,
+        Err(memory) => return Err(WriteRefusal::Memory(memory)),
+    };
+    match toml::table_to_string(alloc, &table) {
+        Ok(text) => Ok(text.into_bytes()),
+        Err(Error::DateInvalid) => unreachable!(),
+        Err(Error::OutOfMemory) => Err(WriteRefusal::Memory(refused_by_printer())),
+    }
+}
+
+// Out of memory, as reported by the printer of documents; that a request was refused is assumed
+// here.
+#[tactic(auto, using(card_set::specs::Refusal::an_allocator_said_so))]
+fn refused_by_printer() -> Memory {
+    Memory {}
+}
+
+// The document of some plays. The tables of several hands are inserted from the last to the first.
+fn make_document(alloc: Global, plays: &[Play]) -> Result<Table, Memory>
+    requires { AllByRecursion IsSound plays.now }
+    ensures { IfOk result (λ table. table_view table ≡ document plays.now) }
+{
+    if let [play] = plays {
+        return make_hand(alloc, 0, play);
+    }
+    let mut table = Table::new(alloc);
+    let mut left = plays.len();
+    while left > 0 {
+        left -= 1;
+        let hand = make_hand(alloc, left, &plays[left])?;
+        let key = displayed(alloc, left + 1)?;
+        put(alloc, &mut table, key.as_str(), Value::Table(hand))?;
+    }
+    Ok(table)
+}
+
+// The table of the hand at this place of its file, from 0.
+#[tactic(auto, unfolding(crate::specs::Document::hand_table))]
+fn make_hand(alloc: Global, place: usize, play: &Play) -> Result<Table, Memory>
+    requires { IsSound play.now }
+    ensures { IfOk result (λ table. table_view table ≡ hand_table place play.now) }
+{
+    let mut table = Table::new(alloc);
+    let seats = play.trace.setup.stacks.seats;
+    put_notes(alloc, &mut table, place, seats, &play.hand.notes)?;
+    put_trace(alloc, &mut table, &play.trace)?;
+    put_setup(alloc, &mut table, &play.trace.setup)?;
+    Ok(table)
+}

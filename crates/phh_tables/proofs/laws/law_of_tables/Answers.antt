@@ -1,5 +1,0 @@
-use Rattle.phh_tables.proofs.Cutting.{cut_document}
-use Rattle.phh_tables.proofs.laws.law_of_tables.Goals as goal
-
-pub returns : goal.returns
-returns c = cut_document

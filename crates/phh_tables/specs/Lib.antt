@@ -1,3 +1,0 @@
--- A text that is cut into tables.
-pub mod Tables
-pub mod Worked

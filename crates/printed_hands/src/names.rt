@@ -1,0 +1,60 @@
+//! Tallies the seats of all hands by their names, in the order in which names are first seen.
+ghost use Rattle.std.specs.Prelude.{◌≡◌, OnOk, nat_eq};
+ghost use Rattle.indexmap.specs.IndexMap.{insert_entry};
+ghost use Rattle.printed_hands.specs.Report.{seated_in};
+ghost use Rattle.printed_hands.specs.Tallies.{AreTallied, AreWithin, MOST_SEATS, named_tallies, with_play};
+
+use crate::index::NameIndex;
+use crate::tally::{NamedTally, no_tally, with_seat};
+use card_set::Memory;
+use chip_ledger::Seat;
+use first_fault::Text;
+use hand_canon::{Play, name_of};
+use indexmap::IndexMap;
+use std::alloc::Global;
+
+/// Tallies a seat of the hand with this number, from 1. Each name has its tally under its place,
+/// from 0 in the order in which names are first seen.
+pub fn tally_seat(
+    alloc: Global,
+    places: &mut NameIndex,
+    tallies: &mut IndexMap<usize, NamedTally>,
+    number: u64,
+    play: &Play,
+    seat: Seat,
+) -> Result<(), Memory>
+    requires within { AreWithin MOST_SEATS (named_tallies tallies.old.entries) }
+    requires tallied { AreTallied places.old tallies.old.entries }
+    ensures rows { OnOk result (named_tallies tallies.new.entries
+        ≡ with_play number (named_tallies tallies.old.entries) (seated_in play.now seat.number)) }
+    ensures tallied { OnOk result (AreTallied places.new tallies.new.entries) }
+{
+    let name = name_of(&play.hand.notes, seat);
+    let others = tallies.len();
+    let place = places.place_of(alloc, name, others)?;
+    if place == others {
+        let tally = with_seat(no_tally(), number, play, seat);
+        let name = Text::new(alloc, name)?;
+        insert_tally(tallies, place, NamedTally { name, tally })?;
+        return Ok(());
+    }
+    let tally = with_seat(tallies[place].tally, number, play, seat);
+    tallies[place].tally = tally;
+    Ok(())
+}
+
+// Puts a tally under its place. `indexmap` fails only if memory is refused.
+#[tactic(auto, using(card_set::specs::Refusal::an_allocator_said_so))]
+fn insert_tally(
+    tallies: &mut IndexMap<usize, NamedTally>,
+    place: usize,
+    tally: NamedTally,
+) -> Result<(), Memory>
+    ensures { OnOk result
+        (tallies.new.entries ≡ insert_entry nat_eq tallies.old.entries place tally) }
+{
+    match tallies.insert(place, tally) {
+        Ok(_) => Ok(()),
+        Err(_) => Err(Memory {}),
+    }
+}
