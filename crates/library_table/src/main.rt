@@ -1,30 +1,19 @@
-//! Reads rows about the rules, hands and devices from the input, one per line, and prints each with
-//! the answer of the libraries: for hands that of the betting or the cards, or of `replay` followed
-//! by `canon` or `check_stated`.
+//! Reads rows about the rules and devices from the input, one per line, and prints each with the
+//! answer of the libraries.
 #![tactic(auto)]
 
-mod answers;
-mod betting;
-mod card_words;
 mod cards;
-mod deals;
 mod device_case;
 mod devices;
 mod equities;
-mod event_words;
-mod facts;
 mod games;
-mod hands;
-mod lists;
 mod playable;
 mod pots;
 mod rows;
 mod scripts;
-mod setup_words;
 mod shares;
 mod spelling;
 mod std_devices;
-mod traces;
 mod words;
 
 use std::alloc::AllocError;
@@ -60,20 +49,12 @@ fn answer_to(rt: &(impl Files + AllocGlobal), row: &str) -> Result<Option<String
     let alloc = rt.alloc();
     let (subject, rest) = words::first_and_rest(row);
     let answer = match subject.as_bytes() {
-        b"betting" => betting::answer_to(alloc, rest)?,
-        b"canon" => answers::canonical(alloc, rest)?,
         b"cards" => cards::answer_to(alloc, rest)?,
-        b"deals" => deals::answer_to(alloc, rest)?,
         b"equity" => equities::answer_to(alloc, rest)?,
         b"games" => games::answer_to(alloc, rest)?,
         b"pots" => pots::answer_to(alloc, rest)?,
-        b"push" => lists::pushed(alloc, rest)?,
-        b"replay" => answers::replayed(alloc, rest)?,
         b"scripts" => scripts::answer_to(alloc, rest)?,
         b"spelling" => spelling::answer_to(alloc, rest)?,
-        b"stated" => answers::compared(alloc, rest)?,
-        b"text" => lists::copied(alloc, rest)?,
-        b"times" => answers::repeated(alloc, rest)?,
         _ => devices::answer_to(rt, row)?,
     };
     Ok(answer)

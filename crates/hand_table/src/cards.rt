@@ -1,4 +1,4 @@
-//! Tests the cards: `deals GAME SEATS: EVENT; EVENT..`. An event is `hole 1 2c??`, `board 2c3d4h`,
+//! Tests the cards: `cards GAME SEATS: EVENT; EVENT..`. An event is `hole 1 2c??`, `board 2c3d4h`,
 //! `discard 1 2c??`, `show 1 2c3d`, `muck 1` or `fold 1`; what is due from then on, such as `due
 //! Deal 1`, `due Draw 2`, `due Show` or `due Over`; `settled`, after which the hand is settled; or
 //! a question: `done`, `up`, `hands`, `table`, `mucked`, `unknown`, `places`.

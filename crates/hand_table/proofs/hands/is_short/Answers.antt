@@ -5,7 +5,7 @@ use Rattle.std.proofs.lemmas.List.Sums.{count_by-le-length}
 use Rattle.play_event.specs.PlayedScript.{is_move}
 use Rattle.play_event.specs.Said.{Said, said_of}
 use Rattle.replay_core.specs.Events.{said_by}
-use Rattle.library_table.proofs.hands.is_short.Goals as goal
+use Rattle.hand_table.proofs.hands.is_short.Goals as goal
 
 pub returns : goal.returns
 returns c = λ short.
