@@ -59,6 +59,16 @@ impl SlotRow {
     }
 }
 
+impl Default for SlotRow {
+    ghost use Rattle.card_set.specs.Row.{slots_of};
+
+    ghost is_default = { λ row. slots_of row ≡ [] };
+
+    fn default() -> Self {
+        SlotRow::new()
+    }
+}
+
 impl CardRow {
     ghost use Rattle.card_set.specs.Row.{cards_of};
 
@@ -90,5 +100,15 @@ impl CardRow {
         ensures { result.now ≡ cards_of self.now }
     {
         &self.cards[..self.len as usize]
+    }
+}
+
+impl Default for CardRow {
+    ghost use Rattle.card_set.specs.Row.{cards_of};
+
+    ghost is_default = { λ row. cards_of row ≡ [] };
+
+    fn default() -> Self {
+        CardRow::new()
     }
 }

@@ -104,3 +104,15 @@ impl CardSet {
         13 * suit_index(card.suit) + rank_index(card.rank)
     }
 }
+
+impl Default for CardSet {
+    ghost use Rattle.std.specs.Prelude.{◌≡◌, false};
+    ghost use Rattle.card_set.specs.declared.card.Card.{Card};
+    ghost use Rattle.card_set.specs.CardSet.{is_in};
+
+    ghost is_default = { λ set. (card : Card) → is_in set card ≡ false };
+
+    fn default() -> Self {
+        CardSet::empty()
+    }
+}

@@ -19,3 +19,13 @@ impl RakeRow {
         RakeRow { rakes: [0; 11] }
     }
 }
+
+impl Default for RakeRow {
+    ghost use Rattle.chip_ledger.specs.RakeRow.{no_rakes};
+
+    ghost is_default = { λ row. row ≡ no_rakes };
+
+    fn default() -> Self {
+        RakeRow::none()
+    }
+}

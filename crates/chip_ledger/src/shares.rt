@@ -46,3 +46,13 @@ impl ShareRow {
         self.count += 1;
     }
 }
+
+impl Default for ShareRow {
+    ghost use Rattle.chip_ledger.specs.PotRow.{shares_in};
+
+    ghost is_default = { λ row. shares_in row ≡ [] };
+
+    fn default() -> Self {
+        ShareRow::new()
+    }
+}

@@ -14,6 +14,7 @@ mod numbered;
 mod places;
 mod record;
 mod sizes;
+mod sound_plays;
 mod streets;
 mod texts;
 mod trace;
@@ -30,6 +31,7 @@ pub use notes::{CivilDate, Clock, Moment, NoteName, Notes, TextNotes, name_of, n
 pub use places::Places;
 pub use record::{NetRow, Record, Records, Stated};
 pub use sizes::Sizes;
+pub use sound_plays::{SoundPlay, SoundPlays};
 pub use texts::{keep_short, keep_text};
 pub use trace::{Play, Trace};
 pub use writing::{Keep, Unspelled, WriteRefusal};

@@ -125,6 +125,14 @@ impl Notes {
     }
 }
 
+impl Default for Notes {
+    ghost is_default = { AreNoNotes };
+
+    fn default() -> Self {
+        Notes::none()
+    }
+}
+
 // A reference to the text of a note.
 fn reference(note: &Option<Text>) -> Option<&Text>
     ensures { option_map (λ text. text.now) result ≡ note.now }

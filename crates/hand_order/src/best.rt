@@ -81,7 +81,8 @@ pub fn best_listed<J: Scorer>(scorer: &J, cards: &CardSet, held: u8) -> Option<S
     requires accepted { (hand : List Card) → AreHeld held hand → J.accepts scorer.now hand }
     requires alike { AreAlike (J.points scorer.now) held }
     ensures { (listing : List Card) → IsListing cards.now listing
-        → option_map (λ s. s.points) result ≡ greatest (J.points scorer.now) (choices held listing) }
+        → option_map (λ s. s.points) result
+        ≡ greatest (J.points scorer.now) (choices held listing) }
 {
     best_choice(scorer, &cards.to_row(), 0, CardRow::new(), held)
 }

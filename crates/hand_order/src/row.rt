@@ -39,3 +39,13 @@ impl RankRow {
         &self.heights[..self.len as usize]
     }
 }
+
+impl Default for RankRow {
+    ghost use Rattle.hand_order.specs.Heights.{heights_of};
+
+    ghost is_default = { λ row. heights_of row ≡ [] };
+
+    fn default() -> Self {
+        RankRow::new()
+    }
+}

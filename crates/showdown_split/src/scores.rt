@@ -38,3 +38,13 @@ impl Scores {
         self.scores[seat.number as usize - 1] = score;
     }
 }
+
+impl Default for Scores {
+    ghost use Rattle.showdown_split.specs.Scores.{points_of};
+
+    ghost is_default = { λ row. (n : ℕ) → points_of row n ≡ None };
+
+    fn default() -> Self {
+        Scores::new()
+    }
+}
