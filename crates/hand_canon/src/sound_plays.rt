@@ -95,6 +95,7 @@ impl<'a> SoundPlays<'a> {
         requires { index < length self.now }
         ensures { slice_get self.now index ≡ Some result }
     {
-        SoundPlay::new(&self.plays[index])
+        let plays = self.as_slice();
+        SoundPlay::new(&plays[index])
     }
 }
