@@ -10,9 +10,8 @@ use Rattle.hand_canon.specs.declared.trace.Play.{Play}
 use Rattle.ohh_members.specs.declared.dialect.Dialect.{Dialect}
 use Rattle.ohh_writing.specs.Lines.{AreRead, IsTextOf, Spells, hand_text}
 use Rattle.ohh_writing.specs.Tree.{hand_tree}
-use Rattle.ohh_reading.specs.Reading.{found_said, hands_said, numbered_hand, reading, tree_of, tree_said, with_paths}
+use Rattle.ohh_reading.specs.Reading.{Wrong, found_said, hands_said, numbered_hand, reading, tree_of, tree_said}
 use Rattle.ohh_reading.specs.Blocks.{blocks_of}
-use Rattle.ohh_reading.specs.declared.fault.OhhHandFault.{OhhHandFault}
 use Rattle.ohh_rounds.specs.Steps.{moves_in}
 use Rattle.ohh_format.specs.Again.{hand_again, hands_again}
 use Rattle.ohh_format.proofs.BlocksAgain.{blocks_again, texts}
@@ -41,14 +40,14 @@ module _ (dialect : Dialect) (place : ℕ) (play : Play) (is : IsReadable play) 
       rw (in_limit, text_again dialect place play text, at, tree_again within) refl
 
 -- hands with the number of moves in the file, without this number
-abbrev hands_found : Result (List PlainHand × ℕ) OhhHandFault → Result (List PlainHand) OhhHandFault
+abbrev hands_found : Result (List PlainHand × ℕ) Wrong → Result (List PlainHand) Wrong
 hands_found found = found >>= λ both. Ok both.0
 
-with_first : (hand : PlainHand) (rest : List PlainHand) (others : Result (List PlainHand × ℕ) OhhHandFault) → hands_found others ≡ Ok rest → hands_found (others >>= λ (more : List PlainHand × ℕ). Ok (hand ∷ [] ++ more.0, more.1)) ≡ Ok (hand ∷ rest)
+with_first : (hand : PlainHand) (rest : List PlainHand) (others : Result (List PlainHand × ℕ) Wrong) → hands_found others ≡ Ok rest → hands_found (others >>= λ (more : List PlainHand × ℕ). Ok (hand ∷ [] ++ more.0, more.1)) ≡ Ok (hand ∷ rest)
 with_first hand rest others is = by_others others is
   where
-    by_others : (others : Result (List PlainHand × ℕ) OhhHandFault) → hands_found others ≡ Ok rest → hands_found (others >>= λ (more : List PlainHand × ℕ). Ok (hand ∷ [] ++ more.0, more.1)) ≡ Ok (hand ∷ rest)
-    by_others (Ok found) is = ap (λ (found : Result (List PlainHand) OhhHandFault). found >>= λ hands. Ok (hand ∷ hands)) is
+    by_others : (others : Result (List PlainHand × ℕ) Wrong) → hands_found others ≡ Ok rest → hands_found (others >>= λ (more : List PlainHand × ℕ). Ok (hand ∷ [] ++ more.0, more.1)) ≡ Ok (hand ∷ rest)
+    by_others (Ok found) is = ap (λ (found : Result (List PlainHand) Wrong). found >>= λ hands. Ok (hand ∷ hands)) is
     by_others (Err fault) is = absurd (cc (is))
 
 -- the texts of plays
@@ -65,15 +64,11 @@ hands_read dialect file_moves place (play ∷ rest) few each moves read =
     (with_first (hand_again dialect place play) (hands_again dialect (place + 1) rest) (thread_from (numbered_hand dialect) next (place + 1 + 1) (texts dialect (place + 1) rest))
     (hands_read dialect next (place + 1) rest (omega (arith, few)) each.1 (omega (arith, moves, sum, counted_here)) read.1))
 
-told_again : (found : Result (List PlainHand × ℕ) OhhHandFault) (hands : List PlainHand) → hands_found found ≡ Ok hands → with_paths found ≡ Ok hands
-told_again (Ok found) hands is = let same : found.0 ≡ hands = cc in ap (λ (l : List PlainHand). Ok l) same
-told_again (Err fault) hands is = absurd (cc (is))
-
 -- bytes that spell plays read as the hands of these plays
 pub plays_again : (dialect : Dialect) (plays : List Play) (bytes : List ℕ) → length plays ≤ MOST_HANDS → AllByRecursion IsReadable plays → sum_by moves_written plays ≤ MOST_FILE_MOVES → Spells dialect plays bytes
     → reading dialect bytes ≡ Ok (hands_again dialect 0 plays)
 unfolding reading
 plays_again dialect plays bytes few each moves spells =
     let blocks : blocks_of bytes ≡ texts dialect 0 plays = ap blocks_of spells.lines ∙ blocks_again dialect 0 plays in
-    ap (λ (l : List (List ℕ)). with_paths (hands_said dialect l)) blocks
-    ∙ told_again (hands_said dialect (texts dialect 0 plays)) (hands_again dialect 0 plays) (hands_read dialect 0 0 plays (omega (arith, few)) each (omega (arith, moves)) spells.trees)
+    ap (λ (l : List (List ℕ)). hands_found (hands_said dialect l)) blocks
+    ∙ hands_read dialect 0 0 plays (omega (arith, few)) each (omega (arith, moves)) spells.trees

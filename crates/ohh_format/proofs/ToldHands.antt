@@ -39,10 +39,8 @@ use Rattle.ohh_rounds.specs.HandContext.{PlainHandContext}
 use Rattle.ohh_rounds.specs.Steps.{PlainStep, moves_in}
 use Rattle.ohh_reading.specs.Blocks.{blocks_of}
 use Rattle.ohh_reading.specs.Hand.{hand_said, setting_of}
-use Rattle.ohh_reading.specs.Reading.{found_said, hands_said, in_hand, numbered_hand, object_of, of_hand, past_hands, reading, tree_of, tree_said, with_paths}
+use Rattle.ohh_reading.specs.Reading.{Wrong, found_said, hands_said, in_hand, numbered_hand, object_of, past_hands, reading, tree_of, tree_said, wrong_in}
 use Rattle.ohh_reading.specs.Sizes.{sizes_of}
-use Rattle.ohh_reading.specs.declared.fault.OhhHandFault.{OhhHandFault}
-use Rattle.ohh_reading.specs.declared.fault.HandFaultKind.TheVariants as wrongness
 use Rattle.first_fault.proofs.Thread.{bound}
 use Rattle.hand_canon.specs.PlainHands.{PlainHand, PlainSetup}
 
@@ -207,7 +205,7 @@ numbered_told dialect file_moves number block =
     by_limit (found_said dialect file_moves number (tree_of block) >>= λ found. Ok (found.0 ∷ [], found.1)) (nat_lt MOST_HANDS number)
     (bound_by IsFoundTold AreTold (found_said dialect file_moves number (tree_of block)) _ (found_told dialect file_moves number (tree_of block)) (λ found is. (is, tt)))
   where
-    by_limit : (here : Result (List PlainHand × ℕ) OhhHandFault) (late : Bool) → IfOk here AreTold → IfOk (if late then of_hand number (wrongness.Member past_hands) else here) AreTold
+    by_limit : (here : Result (List PlainHand × ℕ) Wrong) (late : Bool) → IfOk here AreTold → IfOk (if late then Err (wrong_in number past_hands) else here) AreTold
     by_limit here true is = tt
     by_limit here false is = is
 
@@ -215,7 +213,7 @@ both_told : (some more : List PlainHand) → AllByRecursion IsToldHand some → 
 both_told [] more each others = others
 both_told (hand ∷ some) more each others = (each.0, both_told some more each.1 others)
 
-then_told : (found : List PlainHand × ℕ) (others : Result (List PlainHand × ℕ) OhhHandFault) → AreTold found → IfOk others AreTold → IfOk (others >>= λ rest. Ok (found.0 ++ rest.0, rest.1)) AreTold
+then_told : (found : List PlainHand × ℕ) (others : Result (List PlainHand × ℕ) Wrong) → AreTold found → IfOk others AreTold → IfOk (others >>= λ rest. Ok (found.0 ++ rest.0, rest.1)) AreTold
 then_told found (Ok rest) is all = both_told found.0 rest.0 is all
 then_told found (Err fault) is all = tt
 
@@ -225,12 +223,12 @@ threaded dialect file_moves number [] = tt
 threaded dialect file_moves number (block ∷ rest) =
     by_first (numbered_hand dialect file_moves number block) (numbered_told dialect file_moves number block) (λ counts. threaded dialect counts (number + 1) rest)
   where
-    by_first : (first : Result (List PlainHand × ℕ) OhhHandFault) → IfOk first AreTold → ((counts : ℕ) → IfOk (thread_from (numbered_hand dialect) counts (number + 1) rest) AreTold)
+    by_first : (first : Result (List PlainHand × ℕ) Wrong) → IfOk first AreTold → ((counts : ℕ) → IfOk (thread_from (numbered_hand dialect) counts (number + 1) rest) AreTold)
         → IfOk (first >>= λ found. thread_from (numbered_hand dialect) found.1 (number + 1) rest >>= λ others. Ok (found.0 ++ others.0, others.1)) AreTold
     by_first (Ok found) is later = then_told found (thread_from (numbered_hand dialect) found.1 (number + 1) rest) is (later found.1)
     by_first (Err fault) is later = tt
 
-all_told : (found : Result (List PlainHand × ℕ) OhhHandFault) → IfOk found AreTold → IfOk (with_paths found) (AllByRecursion IsToldHand)
+all_told : (found : Result (List PlainHand × ℕ) Wrong) → IfOk found AreTold → IfOk {T = List PlainHand} (found >>= λ all. Ok all.0) (AllByRecursion IsToldHand)
 all_told (Ok found) is = is
 all_told (Err fault) is = tt
 

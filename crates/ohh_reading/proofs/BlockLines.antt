@@ -7,9 +7,7 @@ use Rattle.hand_canon.specs.PlainHands.{PlainHand}
 use Rattle.ohh_members.specs.declared.dialect.Dialect.{Dialect}
 use Rattle.ohh_reading.specs.Begins.{block_lines, block_lines_from}
 use Rattle.ohh_reading.specs.Blocks.{blocks_from, blocks_of, is_blank, lines_of}
-use Rattle.ohh_reading.specs.Reading.{found_said, hands_said, numbered_hand, of_hand, past_hands, reading, tree_of, with_paths}
-use Rattle.ohh_reading.specs.declared.fault.HandFaultKind.TheVariants as wrongness
-use Rattle.ohh_reading.specs.declared.fault.OhhHandFault.{OhhHandFault}
+use Rattle.ohh_reading.specs.Reading.{Wrong, found_said, hands_said, numbered_hand, past_hands, reading, tree_of, wrong_in}
 
 -- ---- blocks
 
@@ -47,8 +45,8 @@ one_hand : (dialect : Dialect) (file_moves number : ℕ) (block : List ℕ) → 
 unfolding numbered_hand
 one_hand dialect file_moves number block = go (nat_lt MOST_HANDS number) (found_said dialect file_moves number (tree_of block))
   where
-    go : (past : Bool) (found : Result (PlainHand × ℕ) OhhHandFault)
-        → IfOk {T = List PlainHand × ℕ} (if past then of_hand number (wrongness.Member past_hands) else (found >>= λ hand. Ok (hand.0 ∷ [], hand.1))) (λ found. length found.0 ≡ 1)
+    go : (past : Bool) (found : Result (PlainHand × ℕ) Wrong)
+        → IfOk {T = List PlainHand × ℕ} (if past then Err (wrong_in number past_hands) else (found >>= λ hand. Ok (hand.0 ∷ [], hand.1))) (λ found. length found.0 ≡ 1)
     go true found = tt
     go false (Ok hand) = refl
     go false (Err fault) = tt
@@ -60,12 +58,12 @@ hand_by_hand dialect file_moves number [] = refl
 hand_by_hand dialect file_moves number (block ∷ blocks) =
     go (numbered_hand dialect file_moves number block) (one_hand dialect file_moves number block) (λ moves. hand_by_hand dialect moves (number + 1) blocks)
   where
-    last : (here : List PlainHand) (others : Result (List PlainHand × ℕ) OhhHandFault) → length here ≡ 1 → IfOk others (λ all. length all.0 ≡ length blocks)
+    last : (here : List PlainHand) (others : Result (List PlainHand × ℕ) Wrong) → length here ≡ 1 → IfOk others (λ all. length all.0 ≡ length blocks)
         → IfOk {T = List PlainHand × ℕ} (others >>= λ more. Ok (here ++ more.0, more.1)) (λ all. length all.0 ≡ length (block ∷ blocks))
     last here (Ok more) one is = omega (arith, one, is, length-append here more.0)
     last here (Err fault) one is = tt
 
-    go : (here : Result (List PlainHand × ℕ) OhhHandFault) → IfOk here (λ found. length found.0 ≡ 1)
+    go : (here : Result (List PlainHand × ℕ) Wrong) → IfOk here (λ found. length found.0 ≡ 1)
         → ((moves : ℕ) → IfOk (thread_from (numbered_hand dialect) moves (number + 1) blocks) (λ all. length all.0 ≡ length blocks))
         → IfOk {T = List PlainHand × ℕ} (here >>= λ found. thread_from (numbered_hand dialect) found.1 (number + 1) blocks >>= λ others. Ok (found.0 ++ others.0, others.1))
         (λ all. length all.0 ≡ length (block ∷ blocks))
@@ -76,7 +74,7 @@ pub hands_have_lines : (dialect : Dialect) (bytes : List ℕ) → IfOk (reading 
 unfolding reading
 hands_have_lines dialect bytes = go (hands_said dialect (blocks_of bytes)) (hand_by_hand dialect 0 1 (blocks_of bytes))
   where
-    go : (found : Result (List PlainHand × ℕ) OhhHandFault) → IfOk found (λ all. length all.0 ≡ length (blocks_of bytes))
-        → IfOk (with_paths found) (λ hands. length hands ≡ length (block_lines bytes))
+    go : (found : Result (List PlainHand × ℕ) Wrong) → IfOk found (λ all. length all.0 ≡ length (blocks_of bytes))
+        → IfOk {T = List PlainHand} (found >>= λ all. Ok all.0) (λ hands. length hands ≡ length (block_lines bytes))
     go (Ok found) is = omega (arith, is, blocks_have_lines None 1 (lines_of bytes))
     go (Err fault) is = tt

@@ -10,3 +10,4 @@ pub mod UnusualNotes
 pub mod Trees
 pub mod Lines
 pub mod BlockLines
+pub mod Refused

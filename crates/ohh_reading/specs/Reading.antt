@@ -14,14 +14,25 @@ use Rattle.ohh_members.specs.declared.fault.MemberFaultKind.{MemberFaultKind}
 use Rattle.ohh_members.specs.declared.fault.MemberFaultKind.TheVariants as whats
 use Rattle.ohh_members.specs.Paths.{path_text}
 use Rattle.ohh_members.specs.Values.{wrong, field}
-use Rattle.ohh_reading.specs.declared.fault.OhhHandFault.{OhhHandFault}
-use Rattle.ohh_reading.specs.declared.fault.HandFaultKind.{HandFaultKind}
-use Rattle.ohh_reading.specs.declared.fault.HandFaultKind.TheVariants as wrongness
 use Rattle.ohh_reading.specs.declared.fault.OhhFault.{OhhFault}
 use Rattle.ohh_reading.specs.declared.fault.OhhFault.TheVariants as faults
 use Rattle.ohh_reading.specs.Blocks.{blocks_of}
 use Rattle.ohh_reading.specs.Hand.{hand_said}
 use Rattle.hand_canon.specs.PlainHands.{PlainHand, plain}
+
+-- what is wrong with bytes: a hand is not JSON, or has a fault at a member
+pub data Wrong : Type 0 where
+  NoText : ℕ → Wrong
+  InHand : ℕ → List ℕ → MemberFaultKind → Wrong
+
+-- a fault of the hand with this number, its path as text
+abbrev pub wrong_in : ℕ → MemberFault → Wrong
+wrong_in number fault = InHand number (path_text fault.path) fault.what
+
+-- what is read of the hand with this number
+abbrev pub in_hand : {A : Type 0} → ℕ → Result A MemberFault → Result A Wrong
+in_hand number (Ok x) = Ok x
+in_hand number (Err fault) = Err (wrong_in number fault)
 
 -- the object of the hand in a tree
 abbrev pub object_of : Option Data → Result Data MemberFault
@@ -33,22 +44,13 @@ unfoldable pub tree_said : Dialect → ℕ → ℕ → Data → Result (PlainHan
 tree_said dialect file_moves place tree =
     object_of (field paths.Ohh tree) >>= hand_said dialect file_moves place
 
--- what is wrong with the hand that has this number: it is not JSON, or has a fault at a member
-abbrev pub of_hand : {A : Type 0} → ℕ → HandFaultKind → Result A OhhHandFault
-of_hand number what = Err (record { hand = number; what = what })
-
--- a fault of the hand with this number
-abbrev pub in_hand : {A : Type 0} → ℕ → Result A MemberFault → Result A OhhHandFault
-in_hand number (Ok x) = Ok x
-in_hand number (Err fault) = of_hand number (wrongness.Member fault)
-
 -- the JSON tree of a block, if it is JSON
 abbrev pub tree_of : List ℕ → Option Data
 tree_of block = if is_utf8 block then read block else None
 
 -- the hand of a tree, if there is one
-unfoldable pub found_said : Dialect → ℕ → ℕ → Option Data → Result (PlainHand × ℕ) OhhHandFault
-found_said dialect file_moves number None = of_hand number wrongness.Text
+unfoldable pub found_said : Dialect → ℕ → ℕ → Option Data → Result (PlainHand × ℕ) Wrong
+found_said dialect file_moves number None = Err (NoText number)
 found_said dialect file_moves number (Some tree) =
     in_hand number (tree_said dialect file_moves (number - 1) tree)
 
@@ -58,34 +60,19 @@ past_hands = record { what = whats.TooMany quantities.Hands; path = paths.Ohh }
 
 -- the hand with this number, from 1, after this number of moves of the file; and the moves of the
 -- file after it
-unfoldable pub numbered_hand : Dialect → ℕ → ℕ → List ℕ → Result (List PlainHand × ℕ) OhhHandFault
+unfoldable pub numbered_hand : Dialect → ℕ → ℕ → List ℕ → Result (List PlainHand × ℕ) Wrong
 numbered_hand dialect file_moves number block =
-    if nat_lt MOST_HANDS number then of_hand number (wrongness.Member past_hands)
+    if nat_lt MOST_HANDS number then Err (wrong_in number past_hands)
     else (found_said dialect file_moves number (tree_of block)
     >>= λ found. Ok (found.0 ∷ [], found.1))
 
 -- the hands of blocks, in order, and the number of moves in the file
-abbrev pub hands_said : Dialect → List (List ℕ) → Result (List PlainHand × ℕ) OhhHandFault
+abbrev pub hands_said : Dialect → List (List ℕ) → Result (List PlainHand × ℕ) Wrong
 hands_said dialect blocks = thread_from (numbered_hand dialect) 0 1 blocks
-
--- what is wrong with bytes: a hand is not JSON, or has a fault at a member
-pub data Wrong : Type 0 where
-  NoText : ℕ → Wrong
-  InHand : ℕ → List ℕ → MemberFaultKind → Wrong
-
--- a fault with its path as text
-abbrev pub spelled : ℕ → HandFaultKind → Wrong
-spelled hand wrongness.Text = NoText hand
-spelled hand (wrongness.Member fault) = InHand hand (path_text fault.path) fault.what
-
--- the records, or the fault with its path as text
-abbrev pub with_paths : Result (List PlainHand × ℕ) OhhHandFault → Result (List PlainHand) Wrong
-with_paths (Ok found) = Ok found.0
-with_paths (Err fault) = Err (spelled fault.hand fault.what)
 
 -- the records in bytes, read in a dialect, or the first fault
 unfoldable pub reading : Dialect → List ℕ → Result (List PlainHand) Wrong
-reading dialect bytes = with_paths (hands_said dialect (blocks_of bytes))
+reading dialect bytes = hands_said dialect (blocks_of bytes) >>= λ found. Ok found.0
 
 -- what is wrong, unless memory ran out
 abbrev pub wrong_of : OhhFault → Option Wrong
@@ -103,7 +90,15 @@ wrong_of (faults.RakePlace hand path) = Some (InHand hand path whats.RakePlace)
 wrong_of (faults.TooMany hand path quantity) = Some (InHand hand path (whats.TooMany quantity))
 wrong_of (faults.Memory memory) = None
 
--- the result is what is read: the records, or the fault; nothing is claimed if memory ran out
+-- this fault is what is read; nothing is claimed if memory ran out
+abbrev pub Refuses : {Y : Type 0} → OhhFault → Result Y Wrong → Type 0
+Refuses fault read = IfSome (wrong_of fault) (λ wrong. read ≡ Err wrong)
+
+-- the result, seen by a view, is what is read, or its fault is
+abbrev pub ReadsAs : {X Y : Type 0} → (X → Y) → Result X OhhFault → Result Y Wrong → Type 0
+ReadsAs view (Ok x) read = read ≡ Ok (view x)
+ReadsAs view (Err fault) read = Refuses fault read
+
+-- the records are what is read, or the fault is
 abbrev pub Reads : Result (List Record) OhhFault → Result (List PlainHand) Wrong → Type 0
-Reads (Ok records) read = read ≡ Ok (map plain records)
-Reads (Err fault) read = IfSome (wrong_of fault) (λ wrong. read ≡ Err wrong)
+Reads result read = ReadsAs (map plain) result read

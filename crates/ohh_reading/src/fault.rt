@@ -1,12 +1,14 @@
 //! Why bytes cannot be read as hands in Open Hand History: their first fault, with its hand and the
 //! path of its member.
-ghost use Rattle.std.specs.Prelude.{◌≡◌, Some};
+ghost use Rattle.std.specs.Prelude.{◌≡◌, Some, IfSome};
 ghost use Rattle.ohh_reading.specs.FaultText.{fault_text, name_of};
-ghost use Rattle.ohh_reading.specs.Reading.{wrong_of};
+ghost use Rattle.ohh_reading.specs.Reading.{InHand, wrong_in, wrong_of};
+ghost use Rattle.ohh_reading.specs.declared.fault.OhhFault.TheVariants as faults;
 
 use card_set::Memory;
 use first_fault::{Quantity, Text};
-use ohh_members::fault::MemberFault;
+use ohh_members::fault::{MemberFault, MemberFaultKind};
+use std::alloc::Global;
 use std::fmt;
 
 /// The first fault of bytes, in the order in which members are examined. `hand` counts from 1 in
@@ -98,6 +100,39 @@ impl OhhFault {
             OhhFault::Memory(_) => "Memory",
         }
     }
+
+    /// A fault of the hand with this number, its path as text.
+    pub fn in_hand(alloc: Global, hand: u32, fault: MemberFault) -> Self
+        ensures { IfSome (wrong_of result) (λ wrong. wrong ≡ wrong_in hand fault) }
+    {
+        match fault.path.text(alloc) {
+            Ok(path) => OhhFault::at_path(hand, path, fault.what),
+            Err(memory) => OhhFault::Memory(memory),
+        }
+    }
+
+    // What is wrong at a path of a hand.
+    fn at_path(hand: u32, path: Text, what: MemberFaultKind) -> Self
+        ensures { wrong_of result ≡ Some (InHand hand path what) }
+    {
+        match what {
+            MemberFaultKind::MissingMember => OhhFault::MissingMember { hand, path },
+            MemberFaultKind::WrongType => OhhFault::WrongType { hand, path },
+            MemberFaultKind::AmountNotWhole => OhhFault::AmountNotWhole { hand, path },
+            MemberFaultKind::AmountLimit => OhhFault::AmountLimit { hand, path },
+            MemberFaultKind::UnsupportedGame => OhhFault::UnsupportedGame { hand, path },
+            MemberFaultKind::BadPlayer => OhhFault::BadPlayer { hand, path },
+            MemberFaultKind::UnsupportedAction => OhhFault::UnsupportedAction { hand, path },
+            MemberFaultKind::BadStreet => OhhFault::BadStreet { hand, path },
+            MemberFaultKind::BadPost => OhhFault::BadPost { hand, path },
+            MemberFaultKind::RakePlace => OhhFault::RakePlace { hand, path },
+            MemberFaultKind::TooMany { quantity } => OhhFault::TooMany {
+                hand,
+                path,
+                quantity,
+            },
+        }
+    }
 }
 
 impl fmt::Display for OhhFault {
@@ -126,17 +161,10 @@ impl fmt::Display for OhhFault {
     }
 }
 
-/// What is wrong with a hand: its block is not JSON, or a member has a fault.
-#[derive(Clone, Copy, Debug, PartialEq, Eq)]
-pub enum HandFaultKind {
-    Text,
-    Member(MemberFault),
-}
+impl From<Memory> for OhhFault {
+    ghost from_gives = { λ memory fault. fault ≡ faults.Memory memory };
 
-/// A fault of a hand of a file.
-#[derive(Clone, Copy, Debug, PartialEq, Eq)]
-pub struct OhhHandFault {
-    /// The number of the hand, from 1 in the order of reading.
-    pub hand: u32,
-    pub what: HandFaultKind,
+    fn from(memory: Memory) -> Self {
+        OhhFault::Memory(memory)
+    }
 }

@@ -7,12 +7,12 @@ ghost use Rattle.first_fault.specs.Reading.{Gives};
 ghost use Rattle.ohh_members.specs.declared.fault.Path.TheVariants as paths;
 ghost use Rattle.ohh_members.specs.Values as values;
 ghost use Rattle.ohh_reading.specs.Blocks.{blocks_of};
-ghost use Rattle.ohh_reading.specs.Reading.{hands_said, numbered_hand, object_of, tree_of, tree_said};
+ghost use Rattle.ohh_reading.specs.Reading.{ReadsAs, hands_said, numbered_hand, object_of, tree_of, tree_said};
 ghost use Rattle.hand_canon.specs.Histories.{AreHistories, IsNextHand};
 ghost use Rattle.hand_canon.specs.PlainHands.{plain};
 
 use crate::blocks::cut_blocks;
-use crate::fault::{HandFaultKind, OhhHandFault};
+use crate::fault::OhhFault;
 use crate::hand::read_hand;
 use card_set::Memory;
 use first_fault::{MOST_HANDS, Quantity, ReadError};
@@ -28,14 +28,13 @@ pub fn read_file(
     alloc: Global,
     dialect: Dialect,
     bytes: &[u8],
-) -> Result<(Records, usize), ReadError<OhhHandFault>>
-    ensures said { Gives (λ found. (map plain found.0, found.1)) result
+) -> Result<(Records, usize), OhhFault>
+    ensures said { ReadsAs (λ found. (map plain found.0, found.1)) result
         (hands_said dialect (blocks_of bytes.now)) }
     ensures hands { IfOk result (λ found. AreHistories found.0) }
 {
     let blocks = cut_blocks(alloc, bytes)?;
-    let found = read_blocks(alloc, dialect, blocks.as_slice())?;
-    Ok(found)
+    read_blocks(alloc, dialect, blocks.as_slice())
 }
 
 // The hands of blocks, in order, and the number of moves in the file so far.
@@ -43,8 +42,8 @@ fn read_blocks(
     alloc: Global,
     dialect: Dialect,
     blocks: &[Vec<u8>],
-) -> Result<(Records, usize), ReadError<OhhHandFault>>
-    ensures said { Gives (λ found. (map plain found.0, found.1)) result
+) -> Result<(Records, usize), OhhFault>
+    ensures said { ReadsAs (λ found. (map plain found.0, found.1)) result
         (hands_said dialect (map (λ block. block.items) blocks.now)) }
     ensures hands { IfOk result (λ found. AreHistories found.0) }
 {
@@ -68,10 +67,10 @@ fn read_numbered(
     block: &[u8],
     number: u32,
     file_moves: usize,
-) -> Result<(Record, usize), ReadError<OhhHandFault>>
+) -> Result<(Record, usize), OhhFault>
     requires first { 1 ≤ number }
     requires few { file_moves ≤ MOST_FILE_MOVES }
-    ensures said { Gives (λ found. (plain found.0 ∷ [], found.1)) result
+    ensures said { ReadsAs (λ found. (plain found.0 ∷ [], found.1)) result
         (numbered_hand dialect file_moves number block.now) }
     ensures next { IfOk result (IsNextHand file_moves) }
     ensures number { IfOk result (λ found. number ≤ MOST_HANDS) }
@@ -80,23 +79,16 @@ fn read_numbered(
         let quantity = Quantity::Hands;
         let what = MemberFaultKind::TooMany { quantity };
         let path = Path::Ohh;
-        return Err(in_hand(number, HandFaultKind::Member(MemberFault { what, path })));
+        return Err(OhhFault::in_hand(alloc, number, MemberFault { what, path }));
     }
     let Some(tree) = parse(alloc, block)? else {
-        return Err(in_hand(number, HandFaultKind::Text));
+        return Err(OhhFault::Text { hand: number });
     };
     match read_tree(alloc, dialect, &tree, number - 1, file_moves) {
         Ok(found) => Ok(found),
-        Err(ReadError::Memory(memory)) => Err(ReadError::Memory(memory)),
-        Err(ReadError::Fault(fault)) => Err(in_hand(number, HandFaultKind::Member(fault))),
+        Err(ReadError::Memory(memory)) => Err(OhhFault::Memory(memory)),
+        Err(ReadError::Fault(fault)) => Err(OhhFault::in_hand(alloc, number, fault)),
     }
-}
-
-// What is wrong with the hand that has this number.
-fn in_hand(hand: u32, what: HandFaultKind) -> ReadError<OhhHandFault>
-    ensures { result ≡ ReadError.Fault (record { hand = hand; what = what }) }
-{
-    ReadError::Fault(OhhHandFault { hand, what })
 }
 
 // The JSON tree of a block, or nothing if it is not JSON.

@@ -25,8 +25,7 @@ use Rattle.hand_canon.specs.declared.writing.Unspelled.TheVariants as facts
 use Rattle.hand_canon.specs.LegalPlay.{IsTraceOfLegal}
 use Rattle.canon_laws.proofs.SuitedRules.{suits_own}
 use Rattle.phh_reading.specs.Hand.{finish_stated, hand_said, rakes_at}
-use Rattle.phh_reading.specs.Reading.{Wrong, at_variant, document_of, document_said, hands_of, hands_said, in_hand, numbered_hand, reading, records_said, spelled_fault, those_said}
-use Rattle.phh_reading.specs.declared.fault.PhhHandFault.{PhhHandFault}
+use Rattle.phh_reading.specs.Reading.{Wrong, at_variant, document_of, document_said, hands_of, hands_said, in_hand, numbered_hand, reading, records_said, those_said}
 use Rattle.phh_reading.specs.declared.field_fault.FieldFault.{FieldFault}
 use Rattle.phh_reading.specs.declared.field_fault.FieldFaultKind.{FieldFaultKind}
 use Rattle.phh_reading.specs.declared.field_fault.FieldFaultKind.TheVariants as whats
@@ -89,7 +88,7 @@ one_ruled : (number : ℕ) (read : Result (PlainHand × ℕ) FieldFault) → IfO
 one_ruled number (Ok found) is = (is, tt)
 one_ruled number (Err fault) is = tt
 
-by_limit : (here : Result (List PlainHand × ℕ) PhhHandFault) (number : ℕ) (what : FieldFaultKind) (late : Bool) → IfOk here AreRuled → IfOk (if late then at_variant number what else here) AreRuled
+by_limit : (here : Result (List PlainHand × ℕ) Wrong) (number : ℕ) (what : FieldFaultKind) (late : Bool) → IfOk here AreRuled → IfOk (if late then at_variant number what else here) AreRuled
 by_limit here number what true is = tt
 by_limit here number what false is = is
 
@@ -102,12 +101,12 @@ both_ruled : (some more : List PlainHand) → AllByRecursion IsRuled some → Al
 both_ruled [] more each others = others
 both_ruled (hand ∷ some) more each others = (each.0, both_ruled some more each.1 others)
 
-then_ruled : (found : List PlainHand × ℕ) (others : Result (List PlainHand × ℕ) PhhHandFault) → AreRuled found → IfOk others AreRuled → IfOk (others >>= λ rest. Ok (found.0 ++ rest.0, rest.1)) AreRuled
+then_ruled : (found : List PlainHand × ℕ) (others : Result (List PlainHand × ℕ) Wrong) → AreRuled found → IfOk others AreRuled → IfOk (others >>= λ rest. Ok (found.0 ++ rest.0, rest.1)) AreRuled
 then_ruled found (Ok rest) is all = both_ruled found.0 rest.0 is all
 then_ruled found (Err fault) is all = tt
 
 -- hands after the first one, from the moves of the file after it
-rest_ruled : (rest : ℕ → Result (List PlainHand × ℕ) PhhHandFault) (first : Result (List PlainHand × ℕ) PhhHandFault) → IfOk first AreRuled → ((file_moves : ℕ) → IfOk (rest file_moves) AreRuled)
+rest_ruled : (rest : ℕ → Result (List PlainHand × ℕ) Wrong) (first : Result (List PlainHand × ℕ) Wrong) → IfOk first AreRuled → ((file_moves : ℕ) → IfOk (rest file_moves) AreRuled)
     → IfOk (first >>= λ found. rest found.1 >>= λ others. Ok (found.0 ++ others.0, others.1)) AreRuled
 rest_ruled rest (Ok found) is all = then_ruled found (rest found.1) is (all found.1)
 rest_ruled rest (Err fault) is all = tt
@@ -121,13 +120,9 @@ threaded file_moves number (members ∷ rest) =
 records_ruled : (hands : List Members) → IfOk (records_said hands) (AllByRecursion IsRuled)
 records_ruled hands = by_hands (hands_said hands) (threaded 0 1 hands)
   where
-    by_hands : (found : Result (List PlainHand × ℕ) PhhHandFault) → IfOk found AreRuled → IfOk (found >>= λ them. Ok them.0) (AllByRecursion IsRuled)
+    by_hands : (found : Result (List PlainHand × ℕ) Wrong) → IfOk found AreRuled → IfOk (found >>= λ them. Ok them.0) (AllByRecursion IsRuled)
     by_hands (Ok found) is = is
     by_hands (Err fault) is = tt
-
-spelled_ruled : (found : Result (List PlainHand) PhhHandFault) → IfOk found (AllByRecursion IsRuled) → IfOk (spelled_fault found) (AllByRecursion IsRuled)
-spelled_ruled (Ok hands) is = is
-spelled_ruled (Err fault) is = tt
 
 those_ruled : (hands : Option (List Members)) → IfOk (those_said hands) (AllByRecursion IsRuled)
 those_ruled (Some hands) = records_ruled hands
@@ -135,7 +130,7 @@ those_ruled None = tt
 
 document_ruled : (document : Option Members) → IfOk (document_said document) (AllByRecursion IsRuled)
 document_ruled None = tt
-document_ruled (Some members) = spelled_ruled (those_said (hands_of members)) (those_ruled (hands_of members))
+document_ruled (Some members) = those_ruled (hands_of members)
 
 -- each hand that is read from bytes is under the rules of hand histories
 reading_ruled : (bytes : List ℕ) → IfOk (reading bytes) (AllByRecursion IsRuled)

@@ -14,14 +14,13 @@ use Rattle.first_fault.proofs.Thread.{behind}
 use Rattle.hand_canon.specs.PlainHands.{PlainHand}
 use Rattle.phh_reading.specs.Tables.{Entry, IsCut, IsTable}
 use Rattle.phh_reading.proofs.Cutting.{cut_document}
-use Rattle.phh_reading.specs.declared.fault.PhhHandFault.{PhhHandFault}
 use Rattle.phh_reading.specs.NextTable.{IsNextHand}
-use Rattle.phh_reading.specs.Reading.{document_said, hands_said, numbered_hand}
+use Rattle.phh_reading.specs.Reading.{Wrong, document_said, hands_said, numbered_hand}
 use Rattle.phh_reading.proofs.Ascending.{Ascend, ascending_apart, ascending_hands, tables_of}
 
 -- what is read of a file
 abbrev Read : Type 0
-Read = Result (List PlainHand × ℕ) PhhHandFault
+Read = Result (List PlainHand × ℕ) Wrong
 
 -- the text is cut into tables with numbers that ascend, and this is read of their hands
 abbrev IsRead : List ℕ → Read → Type 0

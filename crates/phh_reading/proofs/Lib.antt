@@ -22,4 +22,5 @@ pub mod Placing
 pub mod Counting
 pub mod Documents
 pub mod Ascending
+pub mod Refused
 pub mod InTurn

@@ -11,27 +11,34 @@ use Rattle.phh_reading.specs.declared.field_fault.FieldKey.TheVariants as keys
 use Rattle.phh_reading.specs.declared.field_fault.FieldFaultKind.{FieldFaultKind}
 use Rattle.phh_reading.specs.declared.field_fault.FieldFaultKind.TheVariants as whats
 use Rattle.phh_reading.specs.declared.field_fault.FieldFault.{FieldFault}
-use Rattle.phh_reading.specs.Fields.{at_key, field, field_text}
-use Rattle.phh_reading.specs.declared.fault.PhhHandFault.{PhhHandFault}
+use Rattle.phh_reading.specs.Fields.{at_key, fault_at, field, field_text}
 use Rattle.phh_reading.specs.declared.fault.PhhFault.{PhhFault}
 use Rattle.phh_reading.specs.declared.fault.PhhFault.TheVariants as faults
 use Rattle.phh_reading.specs.Hand.{hand_said}
 use Rattle.phh_reading.specs.Order.{is_multi_hand, in_order}
 use Rattle.hand_canon.specs.PlainHands.{PlainHand, plain}
 
--- a fault of the hand with this number
-abbrev pub in_hand : {A : Type 0} → ℕ → Result A FieldFault → Result A PhhHandFault
+-- what is wrong with bytes: they are not a document, or one of its hands has a fault at a key
+pub data Wrong : Type 0 where
+  NoDocument : Wrong
+  InHand : ℕ → List ℕ → FieldFaultKind → Wrong
+
+-- a fault of the hand with this number, its key as text
+abbrev pub wrong_in : ℕ → FieldFault → Wrong
+wrong_in number fault = InHand number (field_text fault.place) fault.what
+
+-- what is read of the hand with this number
+abbrev pub in_hand : {A : Type 0} → ℕ → Result A FieldFault → Result A Wrong
 in_hand number (Ok x) = Ok x
-in_hand number (Err fault) = Err (record { hand = number; fault = fault })
+in_hand number (Err fault) = Err (wrong_in number fault)
 
 -- a fault at a hand's variant
-abbrev pub at_variant : {A : Type 0} → ℕ → FieldFaultKind → Result A PhhHandFault
-at_variant number what =
-    Err (record { hand = number; fault = record { what = what; place = at_key keys.Variant } })
+abbrev pub at_variant : {A : Type 0} → ℕ → FieldFaultKind → Result A Wrong
+at_variant number what = Err (wrong_in number (fault_at what (at_key keys.Variant)))
 
 -- the hand with this number, from 1, after this number of moves of the file; and the moves of the
 -- file after it
-unfoldable pub numbered_hand : ℕ → ℕ → Members → Result (List PlainHand × ℕ) PhhHandFault
+unfoldable pub numbered_hand : ℕ → ℕ → Members → Result (List PlainHand × ℕ) Wrong
 numbered_hand file_moves number members =
     if nat_lt MOST_HANDS number then at_variant number (whats.TooMany quantities.Hands)
     else (in_hand number (hand_said file_moves (number - 1) members)
@@ -46,27 +53,17 @@ hands_of members =
     else None
 
 -- the hands of tables, in order, and the number of moves in the file
-abbrev pub hands_said : List Members → Result (List PlainHand × ℕ) PhhHandFault
+abbrev pub hands_said : List Members → Result (List PlainHand × ℕ) Wrong
 hands_said hands = thread_from numbered_hand 0 1 hands
 
 -- the records of hands
-abbrev pub records_said : List Members → Result (List PlainHand) PhhHandFault
+abbrev pub records_said : List Members → Result (List PlainHand) Wrong
 records_said hands = hands_said hands >>= λ found. Ok found.0
 
 -- the records of these hands; any other document has no variant for its first hand
-abbrev pub those_said : Option (List Members) → Result (List PlainHand) PhhHandFault
+abbrev pub those_said : Option (List Members) → Result (List PlainHand) Wrong
 those_said (Some hands) = records_said hands
 those_said None = at_variant 1 whats.MissingField
-
--- what is wrong with bytes: they are not a document, or one of its hands has a fault at a key
-pub data Wrong : Type 0 where
-  NoDocument : Wrong
-  InHand : ℕ → List ℕ → FieldFaultKind → Wrong
-
--- a fault with its key as text
-abbrev pub spelled_fault : {A : Type 0} → Result A PhhHandFault → Result A Wrong
-spelled_fault (Ok x) = Ok x
-spelled_fault (Err found) = Err (InHand found.hand (field_text found.fault.place) found.fault.what)
 
 -- the document of the bytes, if they are TOML
 abbrev pub document_of : List ℕ → Option Members
@@ -75,7 +72,7 @@ document_of bytes = if is_utf8 bytes then parse_document bytes else None
 -- the records of the document, if there is one
 abbrev pub document_said : Option Members → Result (List PlainHand) Wrong
 document_said None = Err NoDocument
-document_said (Some members) = spelled_fault (those_said (hands_of members))
+document_said (Some members) = those_said (hands_of members)
 
 -- the records in bytes, or the first fault
 unfoldable pub reading : List ℕ → Result (List PlainHand) Wrong
@@ -95,7 +92,15 @@ wrong_of (faults.BadAction hand key) = Some (InHand hand key whats.BadAction)
 wrong_of (faults.TooMany hand key quantity) = Some (InHand hand key (whats.TooMany quantity))
 wrong_of (faults.Memory memory) = None
 
--- the result is what is read: the records, or the fault; nothing is claimed if memory ran out
+-- this fault is what is read; nothing is claimed if memory ran out
+abbrev pub Refuses : {Y : Type 0} → PhhFault → Result Y Wrong → Type 0
+Refuses fault read = IfSome (wrong_of fault) (λ wrong. read ≡ Err wrong)
+
+-- the result, seen by a view, is what is read, or its fault is
+abbrev pub ReadsAs : {X Y : Type 0} → (X → Y) → Result X PhhFault → Result Y Wrong → Type 0
+ReadsAs view (Ok x) read = read ≡ Ok (view x)
+ReadsAs view (Err fault) read = Refuses fault read
+
+-- the records are what is read, or the fault is
 abbrev pub Reads : Result (List Record) PhhFault → Result (List PlainHand) Wrong → Type 0
-Reads (Ok records) read = read ≡ Ok (map plain records)
-Reads (Err fault) read = IfSome (wrong_of fault) (λ wrong. read ≡ Err wrong)
+Reads result read = ReadsAs (map plain) result read

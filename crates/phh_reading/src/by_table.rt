@@ -11,10 +11,11 @@ ghost use Rattle.phh_reading.specs.Reading.{document_said, numbered_hand};
 ghost use Rattle.hand_canon.specs.Histories.{AreHistories, IsNextHand};
 ghost use Rattle.hand_canon.specs.PlainHands.{plain};
 
+use crate::fault::PhhFault;
 use crate::file::read_numbered;
 use crate::table::{first_line, first_table};
 use card_set::Memory;
-use first_fault::{ReadError, read_digits};
+use first_fault::read_digits;
 use hand_canon::{Record, Records};
 use std::alloc::Global;
 use toml::Table;
@@ -106,7 +107,7 @@ fn hand_of(
 {
     match read_numbered(alloc, table, place, file_moves) {
         Ok(found) => Ok(Some(found)),
-        Err(ReadError::Memory(memory)) => Err(memory),
-        Err(ReadError::Fault(_fault)) => Ok(None),
+        Err(PhhFault::Memory(memory)) => Err(memory),
+        Err(_) => Ok(None),
     }
 }

@@ -1,13 +1,14 @@
 //! Why bytes cannot be read as hands in the Poker Hand History format: their first fault, with its
 //! hand and its key.
-ghost use Rattle.std.specs.Prelude.{◌≡◌, Some};
+ghost use Rattle.std.specs.Prelude.{◌≡◌, Some, IfSome};
 ghost use Rattle.phh_reading.specs.FaultText.{fault_text, name_of};
-ghost use Rattle.phh_reading.specs.Reading.{wrong_of};
+ghost use Rattle.phh_reading.specs.Reading.{InHand, wrong_in, wrong_of};
 ghost use Rattle.phh_reading.specs.declared.fault.PhhFault.TheVariants as faults;
 
-use crate::field_fault::FieldFault;
+use crate::field_fault::{FieldFault, FieldFaultKind};
 use card_set::Memory;
 use first_fault::{Quantity, Text};
+use std::alloc::Global;
 use std::fmt;
 
 /// The first fault of bytes, in the order in which fields are examined. `hand` counts from 1 in the
@@ -86,6 +87,37 @@ impl PhhFault {
             PhhFault::Memory(_) => "Memory",
         }
     }
+
+    /// A fault of the hand with this number, its key as text.
+    pub fn in_hand(alloc: Global, hand: u32, fault: FieldFault) -> Self
+        ensures { IfSome (wrong_of result) (λ wrong. wrong ≡ wrong_in hand fault) }
+    {
+        match fault.place.text(alloc) {
+            Ok(key) => PhhFault::at_key(hand, key, fault.what),
+            Err(memory) => PhhFault::Memory(memory),
+        }
+    }
+
+    // What is wrong at a key of a hand.
+    fn at_key(hand: u32, key: Text, what: FieldFaultKind) -> Self
+        ensures { wrong_of result ≡ Some (InHand hand key what) }
+    {
+        match what {
+            FieldFaultKind::MissingField => PhhFault::MissingField { hand, key },
+            FieldFaultKind::WrongType => PhhFault::WrongType { hand, key },
+            FieldFaultKind::AmountNotWhole => PhhFault::AmountNotWhole { hand, key },
+            FieldFaultKind::AmountLimit => PhhFault::AmountLimit { hand, key },
+            FieldFaultKind::UnknownVariant => PhhFault::UnknownVariant { hand, key },
+            FieldFaultKind::SeatCount => PhhFault::SeatCount { hand, key },
+            FieldFaultKind::ListLength => PhhFault::ListLength { hand, key },
+            FieldFaultKind::BadAction => PhhFault::BadAction { hand, key },
+            FieldFaultKind::TooMany { quantity } => PhhFault::TooMany {
+                hand,
+                key,
+                quantity,
+            },
+        }
+    }
 }
 
 impl fmt::Display for PhhFault {
@@ -118,12 +150,4 @@ impl From<Memory> for PhhFault {
     fn from(memory: Memory) -> Self {
         PhhFault::Memory(memory)
     }
-}
-
-/// A fault of a hand of a file.
-#[derive(Clone, Copy, Debug, PartialEq, Eq)]
-pub struct PhhHandFault {
-    /// The number of the hand, from 1 in the order of reading.
-    pub hand: u32,
-    pub fault: FieldFault,
 }

@@ -1,11 +1,13 @@
 //! What is wrong with a hand, and where: the first fault in the order in which fields are examined.
-ghost use Rattle.std.specs.Prelude.{◌≡◌};
+ghost use Rattle.std.specs.Prelude.{◌≡◌, IfOk};
 ghost use Rattle.phh_reading.specs.Events.{action_fault};
 ghost use Rattle.phh_reading.specs.Fields.{key_text};
 ghost use Rattle.phh_reading.specs.Fields as fields;
 
-use first_fault::Quantity;
+use card_set::{Memory, try_format};
+use first_fault::{Quantity, Text};
 use phh_actions::ActionFault;
+use std::alloc::Global;
 
 /// What is wrong.
 #[derive(Clone, Copy, Debug, PartialEq, Eq)]
@@ -126,6 +128,19 @@ impl FieldLocation {
         ensures { result ≡ fields.at_item key item }
     {
         FieldLocation { key, item }
+    }
+
+    /// The place as text: the key, and for an item a space and its number.
+    pub fn text(self, alloc: Global) -> Result<Text, Memory>
+        ensures { IfOk result (λ text. text ≡ fields.field_text self) }
+    {
+        let key = self.key.text();
+        if self.item == 0 {
+            return Text::new(alloc, key);
+        }
+        let item = self.item;
+        let text = try_format!(in alloc; "{key} {item}")?;
+        Text::new(alloc, text.as_str())
     }
 }
 

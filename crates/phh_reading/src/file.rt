@@ -1,16 +1,15 @@
 //! Reads the hands of a document in order: one hand if the document has a variant, else those under
 //! its numbers.
-ghost use Rattle.std.specs.Prelude.{◌≡◌, ◌≤◌, map, [], ◌∷◌, IfOk};
+ghost use Rattle.std.specs.Prelude.{◌≡◌, ◌≤◌, map, [], ◌∷◌, IfOk, IfSome};
 ghost use Rattle.toml.specs.View.{table_view};
 ghost use Rattle.first_fault.specs.declared.limits.TheConstants.{MOST_FILE_MOVES, MOST_HANDS};
-ghost use Rattle.first_fault.specs.Reading.{Gives};
 ghost use Rattle.phh_reading.specs.declared.field_fault.FieldKey.TheVariants as keys;
-ghost use Rattle.phh_reading.specs.Fields.{at_key};
-ghost use Rattle.phh_reading.specs.Reading.{hands_of, hands_said, numbered_hand, records_said, those_said};
+ghost use Rattle.phh_reading.specs.Fields.{at_key, fault_at};
+ghost use Rattle.phh_reading.specs.Reading.{ReadsAs, hands_of, hands_said, numbered_hand, records_said, those_said, wrong_in, wrong_of};
 ghost use Rattle.hand_canon.specs.Histories.{AreHistories, IsNextHand};
 ghost use Rattle.hand_canon.specs.PlainHands.{plain};
 
-use crate::fault::PhhHandFault;
+use crate::fault::PhhFault;
 use crate::field_fault::{FieldFault, FieldFaultKind, FieldKey, FieldLocation};
 use crate::hand::read_hand;
 use crate::order::{is_multi_hand, tables_in_order};
@@ -22,23 +21,23 @@ use toml::Table;
 
 /// The hands of a document.
 #[tactic(auto, unfolding(crate::specs::Reading::hands_of))]
-pub fn read_hands(alloc: Global, table: &Table) -> Result<Records, ReadError<PhhHandFault>>
-    ensures said { Gives (map plain) result (those_said (hands_of (table_view table.now))) }
+pub fn read_hands(alloc: Global, table: &Table) -> Result<Records, PhhFault>
+    ensures said { ReadsAs (map plain) result (those_said (hands_of (table_view table.now))) }
     ensures hands { IfOk result AreHistories }
 {
     if field(table, FieldKey::Variant).is_some() {
         return read_records(alloc, &[table]);
     }
     if !is_multi_hand(table) {
-        return Err(at_variant(1, FieldFaultKind::MissingField));
+        return Err(at_variant(alloc, 1, FieldFaultKind::MissingField));
     }
     let tables = tables_in_order(alloc, table)?;
     read_records(alloc, tables.as_slice())
 }
 
 // The hands of tables, in order.
-fn read_records(alloc: Global, tables: &[&Table]) -> Result<Records, ReadError<PhhHandFault>>
-    ensures said { Gives (map plain) result
+fn read_records(alloc: Global, tables: &[&Table]) -> Result<Records, PhhFault>
+    ensures said { ReadsAs (map plain) result
         (records_said (map (λ hand. table_view hand.now) tables.now)) }
     ensures hands { IfOk result AreHistories }
 {
@@ -47,11 +46,8 @@ fn read_records(alloc: Global, tables: &[&Table]) -> Result<Records, ReadError<P
 }
 
 // The hands of tables, in order, and the number of moves in the file.
-fn read_tables(
-    alloc: Global,
-    tables: &[&Table],
-) -> Result<(Records, usize), ReadError<PhhHandFault>>
-    ensures said { Gives (λ found. (map plain found.0, found.1)) result
+fn read_tables(alloc: Global, tables: &[&Table]) -> Result<(Records, usize), PhhFault>
+    ensures said { ReadsAs (λ found. (map plain found.0, found.1)) result
         (hands_said (map (λ hand. table_view hand.now) tables.now)) }
     ensures hands { IfOk result (λ found. AreHistories found.0) }
 {
@@ -73,38 +69,31 @@ pub fn read_numbered(
     table: &Table,
     number: u32,
     file_moves: usize,
-) -> Result<(Record, usize), ReadError<PhhHandFault>>
+) -> Result<(Record, usize), PhhFault>
     requires first { 1 ≤ number }
     requires few { file_moves ≤ MOST_FILE_MOVES }
-    ensures said { Gives (λ found. (plain found.0 ∷ [], found.1)) result
+    ensures said { ReadsAs (λ found. (plain found.0 ∷ [], found.1)) result
         (numbered_hand file_moves number (table_view table.now)) }
     ensures next { IfOk result (IsNextHand file_moves) }
     ensures number { IfOk result (λ found. number ≤ MOST_HANDS) }
 {
     if number as usize > MOST_HANDS {
         let quantity = Quantity::Hands;
-        return Err(at_variant(number, FieldFaultKind::TooMany { quantity }));
+        let what = FieldFaultKind::TooMany { quantity };
+        return Err(at_variant(alloc, number, what));
     }
     match read_hand(alloc, table, number - 1, file_moves) {
         Ok(found) => Ok(found),
-        Err(ReadError::Memory(memory)) => Err(ReadError::Memory(memory)),
-        Err(ReadError::Fault(fault)) => Err(ReadError::Fault(PhhHandFault {
-            hand: number,
-            fault,
-        })),
+        Err(ReadError::Memory(memory)) => Err(PhhFault::Memory(memory)),
+        Err(ReadError::Fault(fault)) => Err(PhhFault::in_hand(alloc, number, fault)),
     }
 }
 
 // What is wrong at a hand's variant.
-fn at_variant(hand: u32, what: FieldFaultKind) -> ReadError<PhhHandFault>
-    ensures { result ≡ ReadError.Fault (record {
-      hand = hand;
-      fault = record { what = what; place = at_key keys.Variant };
-    }) }
+fn at_variant(alloc: Global, hand: u32, what: FieldFaultKind) -> PhhFault
+    ensures { IfSome (wrong_of result) (λ wrong.
+        wrong ≡ wrong_in hand (fault_at what (at_key keys.Variant))) }
 {
     let place = FieldLocation::at_key(FieldKey::Variant);
-    ReadError::Fault(PhhHandFault {
-        hand,
-        fault: FieldFault { what, place },
-    })
+    PhhFault::in_hand(alloc, hand, FieldFault { what, place })
 }

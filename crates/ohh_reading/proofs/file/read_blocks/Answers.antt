@@ -3,8 +3,9 @@ use Rattle.std.proofs.lemmas.List.{map_push}
 use Rattle.std.proofs.lemmas.List.Sums.{sum_by_push}
 use Rattle.std.proofs.lemmas.Result.{err_from_is_err_and}
 use Rattle.card_set.proofs.Entries.{all_push}
-use Rattle.first_fault.proofs.Thread.{threads_on, thread_ends, thread_done}
-use Rattle.ohh_reading.specs.Reading.{hands_said, numbered_hand}
+use Rattle.first_fault.proofs.Thread.{threads_on, thread_done}
+use Rattle.ohh_reading.specs.Reading.{hands_said, numbered_hand, wrong_of}
+use Rattle.ohh_reading.proofs.Refused.{hand_refused}
 use Rattle.ohh_reading.proofs.file.read_blocks.Goals as goal
 use Rattle.hand_canon.specs.Histories.{IsHistory}
 use Rattle.hand_canon.specs.Moves.{moves_of}
@@ -14,7 +15,7 @@ pub returns-in_err-record-clause-said : goal.returns-in_err-record-clause-said
 returns-in_err-record-clause-said c =
     let p = err_from_is_err_and c.from_residual.result c.from_residual.ensures.1 in
     let l = c.loop-index in
-    rw (p.1, p.2) (thread_ends (λ block. block.items) (numbered_hand c.args.dialect) c.in_err-record.field-0.0 (map plain l.records) l.file_moves c.args.blocks.now l.index c.index-blocks-index.result (hands_said c.args.dialect (map (λ block. block.items) c.args.blocks.now)) c.loop-index-test.true (sym c.index-blocks-index.is) (rw (← c.deref.ensures.value) c.in_err-record.ensures.said) l.invariant.read)
+    rw (p.1, p.2) (hand_refused (λ block. block.items) (numbered_hand c.args.dialect) (wrong_of c.in_err-record.field-0.0) (map plain l.records) l.file_moves c.args.blocks.now l.index c.index-blocks-index.result (hands_said c.args.dialect (map (λ block. block.items) c.args.blocks.now)) c.loop-index-test.true (sym c.index-blocks-index.is) (rw (← c.deref.ensures.value) c.in_err-record.ensures.said) l.invariant.read)
 
 pub loop-index-preserved : goal.loop-index-preserved
 loop-index-preserved c =

@@ -3,8 +3,9 @@ use Rattle.std.proofs.lemmas.List.{map_push}
 use Rattle.std.proofs.lemmas.List.Sums.{sum_by_push}
 use Rattle.std.proofs.lemmas.Result.{err_from_is_err_and}
 use Rattle.toml.specs.View.{table_view}
-use Rattle.first_fault.proofs.Thread.{threads_on, thread_ends, thread_done}
-use Rattle.phh_reading.specs.Reading.{hands_said, numbered_hand}
+use Rattle.first_fault.proofs.Thread.{threads_on, thread_done}
+use Rattle.phh_reading.specs.Reading.{hands_said, numbered_hand, wrong_of}
+use Rattle.phh_reading.proofs.Refused.{hand_refused}
 use Rattle.phh_reading.proofs.file.read_tables.Goals as goal
 use Rattle.card_set.proofs.Entries.{all_push}
 use Rattle.hand_canon.specs.Histories.{IsHistory}
@@ -15,7 +16,7 @@ pub returns-in_err-record-clause-said : goal.returns-in_err-record-clause-said
 returns-in_err-record-clause-said c =
     let p = err_from_is_err_and c.from_residual.result c.from_residual.ensures.1 in
     let l = c.loop-index in
-    rw (p.1, p.2) (thread_ends (λ hand. table_view hand.now) numbered_hand c.in_err-record.field-0.0 (map plain l.records) l.file_moves c.args.tables.now l.index c.index-tables-index.result (hands_said (map (λ hand. table_view hand.now) c.args.tables.now)) c.loop-index-test.true (sym c.index-tables-index.is) c.in_err-record.ensures.said l.invariant.read)
+    rw (p.1, p.2) (hand_refused (λ hand. table_view hand.now) numbered_hand (wrong_of c.in_err-record.field-0.0) (map plain l.records) l.file_moves c.args.tables.now l.index c.index-tables-index.result (hands_said (map (λ hand. table_view hand.now) c.args.tables.now)) c.loop-index-test.true (sym c.index-tables-index.is) c.in_err-record.ensures.said l.invariant.read)
 
 pub loop-index-preserved : goal.loop-index-preserved
 loop-index-preserved c =
