@@ -1,6 +1,5 @@
 //! Writes a play as its line.
 ghost use Rattle.std.specs.Prelude.{◌≡◌, ◌++◌, OnErr, OnOk};
-ghost use Rattle.hand_canon.specs.Sound.{IsSound};
 ghost use Rattle.acpc_format.specs.Line.{end_text, head_text, line_text, play_text};
 ghost use Rattle.acpc_format.specs.Puts.{HaveFewChips};
 ghost use Rattle.acpc_format.specs.Texts.{AreTexts, HasTexts};
@@ -11,27 +10,27 @@ use crate::names::{push_hand, push_names};
 use crate::values::push_values;
 use card_set::{Memory, TryExtend};
 use first_fault::Text;
-use hand_canon::{Notes, Play, Trace};
+use hand_canon::{Notes, SoundPlay, Trace};
 use std::alloc::Global;
 
-/// Appends the line of the play at a place of its file (from 0), whole or not at all. In a no-limit
-/// game raises have their totals.
+/// Appends the line of the play at this index of its file, from 0, whole or not at all. In a
+/// no-limit game raises have their totals.
 #[tactic(auto, unfolding(crate::specs::Line::line_text))]
 pub fn push_line(
     alloc: Global,
     out: &mut Vec<u8>,
     no_limit: bool,
-    place: usize,
-    play: &Play,
+    index: usize,
+    play: &SoundPlay<'_>,
 ) -> Result<(), Memory>
-    requires { IsSound play.now }
     ensures written { OnOk result (out.new.items
-        ≡ out.old.items ++ line_text no_limit place play.now) }
+        ≡ out.old.items ++ line_text no_limit index play.now) }
     ensures texts { OnOk result (HasTexts play.now) }
     ensures unchanged { OnErr result (out.new.items ≡ out.old.items) }
 {
+    let play = play.play();
     let mut line = Vec::new(alloc);
-    push_head(alloc, &mut line, place, &play.hand.notes.hand)?;
+    push_head(alloc, &mut line, index, &play.hand.notes.hand)?;
     line.try_extend_from_slice(b":")?;
     push_play(alloc, &mut line, no_limit, &play.trace)?;
     line.try_extend_from_slice(b":")?;
@@ -40,18 +39,18 @@ pub fn push_line(
     Ok(out.try_extend_from_slice(line.as_slice())?)
 }
 
-// `STATE` and the number of the hand at a place of its file, from 0.
+// `STATE` and the number of the hand at this index of its file, from 0.
 #[tactic(auto, unfolding(crate::specs::Line::head_text))]
 fn push_head(
     alloc: Global,
     out: &mut Vec<u8>,
-    place: usize,
+    index: usize,
     hand: &Option<Text>,
 ) -> Result<(), Memory>
-    ensures { OnOk result (out.new.items ≡ out.old.items ++ head_text place hand.now) }
+    ensures { OnOk result (out.new.items ≡ out.old.items ++ head_text index hand.now) }
 {
     out.try_extend_from_slice(b"STATE:")?;
-    push_hand(alloc, out, place, hand)
+    push_hand(alloc, out, index, hand)
 }
 
 // The betting and the cards of a hand.

@@ -11,7 +11,7 @@ ghost use Rattle.hand_canon.specs.WriteRefusals.{IsOutOfMemory, first_refusal};
 use crate::line::push_line;
 use crate::spelled::find_refusal;
 use acpc_game::Game;
-use hand_canon::{Keep, Play, WriteRefusal};
+use hand_canon::{Keep, Play, SoundPlays, WriteRefusal};
 use std::alloc::Global;
 
 /// The lines of some plays, one per play. Nothing is written if the logs of the game cannot write
@@ -34,12 +34,13 @@ pub fn write(
     ensures refused { IfErr result (λ refusal. IsOutOfMemory refusal
         ⊎ (first_refusal (unspelled game.now keep) plays.now ≡ Some refusal)) }
 {
-    if let Some(refusal) = find_refusal(game, plays, keep) {
+    let plays = SoundPlays::new(plays);
+    if let Some(refusal) = find_refusal(game, &plays, keep) {
         return Err(refusal);
     }
     let mut out = Vec::new(alloc);
-    for (place, play) in plays.iter().enumerate() {
-        push_line(alloc, &mut out, game.no_limit, place, play)?;
+    for index in 0..plays.len() {
+        push_line(alloc, &mut out, game.no_limit, index, &plays.get(index))?;
     }
     Ok(out)
 }

@@ -84,33 +84,33 @@ fn name_of(notes: &Notes, seat: Seat) -> &Option<Text>
     &notes.names[seat.number as usize - 1]
 }
 
-/// The number of the hand at a place of its file (from 0): that place if there is no number or a
+/// The number of the hand at this index of its file, from 0: that index if there is no number or a
 /// line cannot write it.
 #[tactic(auto, unfolding(crate::specs::Names::hand_text))]
 pub fn push_hand(
     alloc: Global,
     out: &mut Vec<u8>,
-    place: usize,
+    index: usize,
     name: &Option<Text>,
 ) -> Result<(), Memory>
-    ensures { OnOk result (out.new.items ≡ out.old.items ++ hand_text place name.now) }
+    ensures { OnOk result (out.new.items ≡ out.old.items ++ hand_text index name.now) }
 {
     let Some(name) = name else {
-        return push_place(alloc, out, place);
+        return push_index(alloc, out, index);
     };
     let name = name.as_str().as_bytes();
     if is_spelled_hand(name) {
         return Ok(out.try_extend_from_slice(name)?);
     }
-    push_place(alloc, out, place)
+    push_index(alloc, out, index)
 }
 
-// The digits of a place of a file.
+// The digits of an index.
 #[tactic(auto, unfolding(crate::specs::Names::hand_text))]
-fn push_place(alloc: Global, out: &mut Vec<u8>, place: usize) -> Result<(), Memory>
-    ensures { OnOk result (out.new.items ≡ out.old.items ++ hand_text place None) }
+fn push_index(alloc: Global, out: &mut Vec<u8>, index: usize) -> Result<(), Memory>
+    ensures { OnOk result (out.new.items ≡ out.old.items ++ hand_text index None) }
 {
-    let digits = displayed(alloc, place)?;
+    let digits = displayed(alloc, index)?;
     Ok(out.try_extend_from_slice(digits.as_bytes())?)
 }
 

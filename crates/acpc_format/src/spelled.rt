@@ -1,6 +1,5 @@
 //! Finds the first fact of a play that the logs of a game cannot write.
-ghost use Rattle.std.specs.Prelude.{◌≡◌, ◌≤◌, length};
-ghost use Rattle.first_fault.specs.declared.limits.TheConstants.{MOST_HANDS};
+ghost use Rattle.std.specs.Prelude.{◌≡◌};
 ghost use Rattle.acpc_format.specs.Spelled.{unspelled};
 ghost use Rattle.hand_canon.specs.WriteRefusals.{first_refusal};
 
@@ -8,13 +7,13 @@ use crate::fits::find_other_setup;
 use crate::notes::find_other_note;
 use crate::played::find_other_play;
 use acpc_game::Game;
-use hand_canon::{Keep, Play, Unspelled, WriteRefusal};
+use hand_canon::{Keep, Play, SoundPlays, Unspelled, WriteRefusal};
 
 /// The refusal of the first play that the logs of a game cannot write. Hands are numbered from 1.
-pub fn find_refusal(game: &Game, plays: &[Play], keep: Keep) -> Option<WriteRefusal>
-    requires { length plays.now ≤ MOST_HANDS }
+pub fn find_refusal(game: &Game, plays: &SoundPlays<'_>, keep: Keep) -> Option<WriteRefusal>
     ensures { result ≡ first_refusal (unspelled game.now keep) plays.now }
 {
+    let plays = plays.as_slice();
     for (index, play) in plays.iter().enumerate() {
         if let Some(fact) = spells(game, play, keep) {
             return Some(WriteRefusal::Unspelled {

@@ -1,6 +1,5 @@
 //! Compares two plays and names their first difference.
 ghost use Rattle.std.specs.Prelude.{◌≡◌, IfNone, option_map};
-ghost use Rattle.hand_canon.specs.Sound.{IsSound};
 ghost use Rattle.hand_differences.specs.FirstDifference.{difference_said};
 ghost use Rattle.hand_differences.specs.FirstDifference as differences;
 
@@ -8,20 +7,25 @@ use crate::difference::Difference;
 use crate::lists::{card_difference, move_difference, shown_difference};
 use crate::notes::note_difference;
 use crate::setups::setup_difference;
-use hand_canon::Play;
+use hand_canon::{Play, SoundPlay};
 
-/// The first difference of two plays, each at this place of its file, from 0; `None` if they are
+/// The first difference of two plays, each at this index of its file, from 0; `None` if they are
 /// the same hand. Notes are compared only if `notes` is set; a note that equals its default counts
-/// as missing, and so does a hand's name that is its place.
+/// as missing, and so does a hand's name that is its index.
 ///
-/// Ask for sound plays. Nothing is allocated. By `law_of_same_hands` the result is `None` if and
-/// only if the traces are the same and, if notes are compared, the notes.
-pub fn first_difference(notes: bool, place: usize, play: &Play, other: &Play) -> Option<Difference>
-    requires play { IsSound play.now }
-    requires other { IsSound other.now }
+/// Nothing is allocated. By `law_of_same_hands` the result is `None` if and only if the traces are
+/// the same and, if notes are compared, the notes.
+pub fn first_difference(
+    notes: bool,
+    index: usize,
+    play: &SoundPlay<'_>,
+    other: &SoundPlay<'_>,
+) -> Option<Difference>
     ensures { option_map difference_said result
-        ≡ differences.first_difference notes place play.now other.now }
+        ≡ differences.first_difference notes index play.now other.now }
 {
+    let play = play.play();
+    let other = other.play();
     let found = play_difference(play, other);
     if found.is_some() {
         return found;
@@ -30,7 +34,7 @@ pub fn first_difference(notes: bool, place: usize, play: &Play, other: &Play) ->
         return None;
     }
     note_difference(
-        place,
+        index,
         play.trace.setup.stacks.seats,
         &play.hand.notes,
         &other.hand.notes,

@@ -14,20 +14,20 @@ use crate::difference::Difference;
 use first_fault::Text;
 use hand_canon::{Clock, NoteName, Notes};
 
-// The first note that differs in two hands of `count` seats, each at this place of its file.
+// The first note that differs in two hands of `count` seats, each at this index of its file.
 pub(crate) fn note_difference(
-    place: usize,
+    index: usize,
     count: u8,
     notes: &Notes,
     others: &Notes,
 ) -> Option<Difference>
     requires { AreBothAllowed count notes.now others.now }
     ensures { option_map difference_said result ≡ differences.note_difference
-        (said_notes place count notes.now) (said_notes place count others.now) }
+        (said_notes index count notes.now) (said_notes index count others.now) }
 {
     let names = NoteName::all();
     let both = BothNotes {
-        place,
+        index,
         count,
         notes,
         others,
@@ -38,10 +38,10 @@ pub(crate) fn note_difference(
     }
 }
 
-// The notes of two hands of `count` seats, each at this place of its file.
+// The notes of two hands of `count` seats, each at this index of its file.
 #[derive(Clone, Copy)]
 struct BothNotes<'a> {
-    place: usize,
+    index: usize,
     count: u8,
     notes: &'a Notes,
     others: &'a Notes,
@@ -52,8 +52,8 @@ impl BothNotes<'_> {
     // The first of some notes that differs.
     fn first_other(&self, names: &[NoteName]) -> Option<NoteName>
         ensures { result ≡ find (λ name. not (differences.is_same_note
-            (said_notes self.now.place self.now.count self.now.notes.now)
-            (said_notes self.now.place self.now.count self.now.others.now) name)) names.now }
+            (said_notes self.now.index self.now.count self.now.notes.now)
+            (said_notes self.now.index self.now.count self.now.others.now) name)) names.now }
     {
         match names {
             [] => None,
@@ -70,15 +70,15 @@ impl BothNotes<'_> {
     // The note is the same in both.
     fn is_same_note(&self, name: NoteName) -> bool
         ensures { result ≡ differences.is_same_note
-            (said_notes self.now.place self.now.count self.now.notes.now)
-            (said_notes self.now.place self.now.count self.now.others.now) name }
+            (said_notes self.now.index self.now.count self.now.notes.now)
+            (said_notes self.now.index self.now.count self.now.others.now) name }
     {
         let (notes, others) = (self.notes, self.others);
         match name {
             NoteName::Players => are_same_names(self.count, &notes.names, &others.names),
             NoteName::Seats => are_same_seats(self.count, &notes.seats, &others.seats),
             NoteName::SeatCount => is_same_byte(notes.seat_count, others.seat_count),
-            NoteName::Hand => is_same_label(self.place, &notes.hand, &others.hand),
+            NoteName::Hand => is_same_label(self.index, &notes.hand, &others.hand),
             NoteName::TimeZone => is_same_text(&notes.zone, &others.zone),
             NoteName::Year => is_same_year(notes.year, others.year),
             NoteName::Month => is_same_byte(notes.month, others.month),
@@ -119,27 +119,27 @@ fn are_same_seats(count: u8, seats: &Option<[u8; 10]>, others: &Option<[u8; 10]>
     }
 }
 
-// The names of two hands are the same. A name that is the hand's place counts as missing.
-fn is_same_label(place: usize, label: &Option<Text>, other: &Option<Text>) -> bool
-    ensures { result ≡ same_parts.is_same_text (hand_name_noted place label.now)
-        (hand_name_noted place other.now) }
+// The names of two hands are the same. A name that is the hand's index counts as missing.
+fn is_same_label(index: usize, label: &Option<Text>, other: &Option<Text>) -> bool
+    ensures { result ≡ same_parts.is_same_text (hand_name_noted index label.now)
+        (hand_name_noted index other.now) }
 {
-    match (label_behind(place, label), label_behind(place, other)) {
+    match (label_behind(index, label), label_behind(index, other)) {
         (Some(a), Some(b)) => a == b,
         (None, None) => true,
         (Some(_), None) | (None, Some(_)) => false,
     }
 }
 
-// The name of a hand, unless it is the hand's place.
-fn label_behind<'a>(place: usize, label: &'a Option<Text>) -> Option<&'a [u8]>
-    ensures { option_map (λ text. text.now) result ≡ hand_name_noted place label.now }
+// The name of a hand, unless it is the hand's index.
+fn label_behind<'a>(index: usize, label: &'a Option<Text>) -> Option<&'a [u8]>
+    ensures { option_map (λ text. text.now) result ≡ hand_name_noted index label.now }
 {
     let Some(text) = label else {
         return None;
     };
     let text = text.as_str().as_bytes();
-    if is_decimal(text, place as u64) {
+    if is_decimal(text, index as u64) {
         None
     } else {
         Some(text)

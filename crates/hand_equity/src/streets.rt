@@ -1,6 +1,5 @@
 //! The equity of a played hand on a street, for the seats that are live when the street begins.
 ghost use Rattle.std.specs.Prelude.{◌≡◌, ◌+◌, IfErr, IfOk, IsTrue, sum, true};
-ghost use Rattle.hand_canon.specs.Sound.{IsSound};
 ghost use Rattle.hand_equity.specs.Equity.{plays_board};
 ghost use Rattle.play_event.specs.Games.{game_of};
 ghost use Rattle.hand_equity.specs.Street.{HasNoEquity, IsEquityOn, IsReady};
@@ -11,7 +10,7 @@ use crate::refusal::NoEquity;
 use crate::row::EquityRow;
 use crate::table::cards_folded;
 use crate::unknown::unknown_seat;
-use hand_canon::{Play, Trace, held_by_seats};
+use hand_canon::{SoundPlay, Trace, held_by_seats};
 use play_event::Code;
 use variant_table::{FO8, FT, NS, NT, PO, Variant};
 
@@ -23,9 +22,7 @@ use variant_table::{FO8, FT, NS, NT, PO, Variant};
 ///
 /// No board card was dealt on this street, or a live seat has a card that stayed unknown.
 #[tactic(auto, using(crate::proofs::Ready::ready))]
-pub fn equity_of(play: &Play, street: u8) -> Result<EquityRow, NoEquity>
-    requires { IsSound play.now }
-
+pub fn equity_of(play: &SoundPlay<'_>, street: u8) -> Result<EquityRow, NoEquity>
     // The rule.
     ensures equity { IfOk result (IsEquityOn play.now.trace street) }
     ensures refused { IfErr result (HasNoEquity play.now.trace street) }
@@ -36,12 +33,13 @@ pub fn equity_of(play: &Play, street: u8) -> Result<EquityRow, NoEquity>
     ensures together_low { IfOk result (λ row. (game_of play.now.trace.setup.code).split ≡ true
         → row.total ≡ sum row.low_wins + row.low_shared + row.low_none) }
 {
-    match play.trace.setup.code {
-        Code::FT => equity_in::<FT>(&play.trace, street),
-        Code::NT => equity_in::<NT>(&play.trace, street),
-        Code::NS => equity_in::<NS>(&play.trace, street),
-        Code::PO => equity_in::<PO>(&play.trace, street),
-        Code::FO8 => equity_in::<FO8>(&play.trace, street),
+    let trace = &play.play().trace;
+    match trace.setup.code {
+        Code::FT => equity_in::<FT>(trace, street),
+        Code::NT => equity_in::<NT>(trace, street),
+        Code::NS => equity_in::<NS>(trace, street),
+        Code::PO => equity_in::<PO>(trace, street),
+        Code::FO8 => equity_in::<FO8>(trace, street),
         Code::F7S | Code::F7S8 | Code::FR | Code::N2L1D | Code::F2L3D | Code::FB => {
             Err(NoEquity::NoStreet)
         }

@@ -1,6 +1,5 @@
 //! Plays the first events of a hand, and gives the options after them.
 ghost use Rattle.std.specs.Prelude.{◌≡◌, ◌≤◌, true, length, is_some, IfNone};
-ghost use Rattle.hand_canon.specs.Sound.{IsSound};
 ghost use Rattle.hand_options.specs.Legal.{AreOptions, IsUndecided};
 ghost use Rattle.hand_options.specs.Printed.{HasTargets};
 ghost use Rattle.hand_canon.specs.SoundRecord.{script_said};
@@ -12,25 +11,23 @@ ghost use Rattle.replay_core.specs.LegalPart.{AreLegalBefore};
 use crate::choices::Options;
 use crate::now::options_now;
 use crate::playing::play_first;
-use hand_canon::{Play, Record};
+use hand_canon::{Record, SoundPlay};
 use replay_core::HandInPlay;
 use variant_table::{Variant, by_code};
 
 /// What is due after the first `events` events of a play, and which moves of the player to act are
 /// legal there.
 ///
-/// Ask for a sound play, and for at most as many events as its script has. The hand is played once,
-/// up to there, and nothing is allocated. With one live seat the hand is over, though that seat may
-/// still show.
-pub fn options(play: &Play, events: u32) -> Options
-    requires sound { IsSound play.now }
-    requires there { events ≤ length play.now.hand.script }
+/// Ask for at most as many events as its script has. The hand is played once, up to there, and
+/// nothing is allocated. With one live seat the hand is over, though that seat may still show.
+pub fn options(play: &SoundPlay<'_>, events: u32) -> Options
+    requires { events ≤ length play.now.hand.script }
     ensures legal { AreOptions play.now.hand.setup play.now.hand.rules
         (past_after play.now.hand.setup (script_said play.now.hand) events) result }
     ensures known { is_some result.seat ≡ is_bet_due result.due }
     ensures listed { HasTargets result.raise }
 {
-    options_at(&play.hand, events)
+    options_at(&play.play().hand, events)
 }
 
 /// What is due after the first `events` events of a hand, and which moves of the player to act are

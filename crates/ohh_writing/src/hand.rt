@@ -33,33 +33,33 @@ use play_event::Setup;
 use serde_json::{Map, Value};
 use std::alloc::Global;
 
-/// The tree of the hand at this place of its file, from 0.
+/// The tree of the hand at this index of its file, from 0.
 #[tactic(auto, unfolding(crate::specs::Tree::hand_tree))]
 pub fn hand_value(
     alloc: Global,
     dialect: Dialect,
-    place: usize,
+    index: usize,
     play: &Play,
 ) -> Result<Value, Memory>
     requires { IsTidy (core_said play.now.trace) }
-    ensures { IfOk result (λ value. view value ≡ hand_tree dialect place play.now) }
+    ensures { IfOk result (λ value. view value ≡ hand_tree dialect index play.now) }
 {
-    let ohh = make_members(alloc, dialect, place, play)?;
+    let ohh = make_members(alloc, dialect, index, play)?;
     let mut members = Map::new(alloc);
     put_value(alloc, &mut members, "ohh", ohh)?;
     Ok(Value::Object(members))
 }
 
-// The members of the hand at this place of its file, as an object.
-fn make_members(alloc: Global, dialect: Dialect, place: usize, play: &Play) -> Result<Value, Memory>
+// The members of the hand at this index of its file, as an object.
+fn make_members(alloc: Global, dialect: Dialect, index: usize, play: &Play) -> Result<Value, Memory>
     requires { IsTidy (core_said play.now.trace) }
     ensures { IfOk result (λ value. view value
-        ≡ object (hand_members dialect place play.now.trace play.now.hand.notes)) }
+        ≡ object (hand_members dialect index play.now.trace play.now.hand.notes)) }
 {
     let mut ohh = Map::new(alloc);
     put_setup(alloc, &mut ohh, &play.trace.setup)?;
     put_seating(alloc, &mut ohh, &play.trace.setup, &play.hand.notes)?;
-    put_names(alloc, &mut ohh, place, &play.hand.notes)?;
+    put_names(alloc, &mut ohh, index, &play.hand.notes)?;
     put_play(alloc, &mut ohh, dialect, &play.trace)?;
     put_versions(alloc, &mut ohh)?;
     put_date(alloc, &mut ohh, &play.hand.notes)?;
@@ -125,18 +125,18 @@ fn put_seating(
     Ok(())
 }
 
-// Puts the names of the hand at this place of its file, of its table, venue and currency under
+// Puts the names of the hand at this index of its file, of its table, venue and currency under
 // their names.
 fn put_names(
     alloc: Global,
     ohh: &mut Map<String, Value>,
-    place: usize,
+    index: usize,
     notes: &Notes,
 ) -> Result<(), Memory>
     ensures { OnOk result (members_view ohh.new.entries
         ≡ put (codes "table_name") (text_or_empty notes.now.table)
         (put (codes "site_name") (text_or_empty notes.now.venue)
-        (put (codes "game_number") (string (unwrap_or notes.now.hand (decimal place)))
+        (put (codes "game_number") (string (unwrap_or notes.now.hand (decimal index)))
         (put (codes "currency") (text_or_empty notes.now.currency)
         (members_view ohh.old.entries))))) }
 {
@@ -145,7 +145,7 @@ fn put_names(
         alloc,
         ohh,
         "game_number",
-        hand_name(alloc, place, &notes.hand)?,
+        hand_name(alloc, index, &notes.hand)?,
     )?;
     put_text(alloc, ohh, "site_name", text_of(&notes.venue))?;
     put_text(alloc, ohh, "table_name", text_of(&notes.table))?;
@@ -162,13 +162,13 @@ fn text_of(note: &Option<Text>) -> &str
     }
 }
 
-// The name of the hand at this place of its file: its note, or else its number.
-fn hand_name(alloc: Global, place: usize, name: &Option<Text>) -> Result<Value, Memory>
-    ensures { IfOk result (λ value. view value ≡ string (unwrap_or name.now (decimal place))) }
+// The name of the hand at this index of its file: its note, or else its number.
+fn hand_name(alloc: Global, index: usize, name: &Option<Text>) -> Result<Value, Memory>
+    ensures { IfOk result (λ value. view value ≡ string (unwrap_or name.now (decimal index))) }
 {
     match name {
         Some(text) => text_value(alloc, text.as_str()),
-        None => Ok(Value::String(displayed(alloc, place)?)),
+        None => Ok(Value::String(displayed(alloc, index)?)),
     }
 }
 

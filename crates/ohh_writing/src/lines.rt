@@ -17,7 +17,7 @@ use crate::hand::hand_value;
 use crate::members::refused_to_tree;
 use crate::spelled::find_refusal;
 use card_set::{Memory, TryExtend, TryPush, reserve_for};
-use hand_canon::{Keep, Play, WriteRefusal};
+use hand_canon::{Keep, Play, SoundPlay, SoundPlays, WriteRefusal};
 use ohh_members::Dialect;
 use serde_json::Value;
 use std::alloc::Global;
@@ -37,69 +37,72 @@ pub fn write(
     ensures refused { IfErr result (λ refusal. IsOutOfMemory refusal
         ⊎ (first_refusal (unspelled keep) plays.now ≡ Some refusal)) }
 {
-    if let Some(refusal) = find_refusal(plays, keep) {
+    let plays = SoundPlays::new(plays);
+    if let Some(refusal) = find_refusal(&plays, keep) {
         return Err(refusal);
     }
-    Ok(spell(alloc, dialect, plays)?)
+    Ok(spell(alloc, dialect, &plays)?)
 }
 
 // The lines of some plays.
-fn spell(alloc: Global, dialect: Dialect, plays: &[Play]) -> Result<Vec<u8>, Memory>
-    requires sound { AllByRecursion IsSound plays.now }
+fn spell(alloc: Global, dialect: Dialect, plays: &SoundPlays<'_>) -> Result<Vec<u8>, Memory>
     ensures { IfOk result (λ bytes. Spells dialect plays.now bytes.items) }
 {
     let mut out = Vec::new(alloc);
-    for (place, play) in plays.iter().enumerate() {
-        push_line(alloc, &mut out, dialect, place, play)?;
+    for index in 0..plays.len() {
+        push_line(alloc, &mut out, dialect, index, &plays.get(index))?;
     }
     Ok(out)
 }
 
-/// Appends the line of the play at this place of its file, from 0, and an empty line before it if
+/// Appends the line of the play at this index of its file, from 0, and an empty line before it if
 /// it is not the first; all of it or nothing.
 pub fn push_line(
     alloc: Global,
     out: &mut Vec<u8>,
     dialect: Dialect,
-    place: usize,
-    play: &Play,
+    index: usize,
+    play: &SoundPlay<'_>,
 ) -> Result<(), Memory>
-    requires { IsSound play.now }
-    ensures spells { (before : List AnyPlay) → length before ≡ place
+    ensures spells { (before : List AnyPlay) → length before ≡ index
         → Spells dialect before out.old.items
         → OnOk result (Spells dialect (before ++ play.now ∷ []) out.new.items) }
     ensures unchanged { OnErr result (out.new.items ≡ out.old.items) }
 {
     // The text comes first, and then the room for all that is appended, so that no step fails after
     // something was appended.
-    let text = make_text(alloc, dialect, place, play)?;
+    let text = make_text(alloc, dialect, index, play)?;
     reserve_for(out, text.as_slice(), 2)?;
-    push_empty_line(out, place)?;
+    push_empty_line(out, index)?;
     out.try_extend_from_slice(text.as_slice())?;
     out.try_push(b'\n')?;
     Ok(())
 }
 
-// Appends an empty line after the hands before this place, if there are any.
-fn push_empty_line(out: &mut Vec<u8>, place: usize) -> Result<(), Memory>
-    ensures line { OnOk result (out.new.items ≡ out.old.items ++ empty_line_behind place) }
+// Appends an empty line after the hands before this index, if there are any.
+fn push_empty_line(out: &mut Vec<u8>, index: usize) -> Result<(), Memory>
+    ensures line { OnOk result (out.new.items ≡ out.old.items ++ empty_line_behind index) }
     ensures room { OnOk result (vec_capacity out.old ≤ vec_capacity out.new) }
     ensures few { OnOk result (vec_len out.new ≤ vec_len out.old + 1) }
     ensures succeeds { vec_len out.old < vec_capacity out.old → IsOk result }
 {
-    if place == 0 {
+    if index == 0 {
         return Ok(());
     }
     out.try_push(b'\n')
 }
 
-// The text of the hand at a place of its file, from 0.
-fn make_text(alloc: Global, dialect: Dialect, place: usize, play: &Play) -> Result<Vec<u8>, Memory>
-    requires { IsSound play.now }
-    ensures text { IfOk result (λ text. text.items ≡ hand_text dialect place play.now) }
-    ensures read { IfOk result (λ text. IsTextOf dialect place play.now) }
+// The text of the hand at this index of its file, from 0.
+fn make_text(
+    alloc: Global,
+    dialect: Dialect,
+    index: usize,
+    play: &SoundPlay<'_>,
+) -> Result<Vec<u8>, Memory>
+    ensures text { IfOk result (λ text. text.items ≡ hand_text dialect index play.now) }
+    ensures read { IfOk result (λ text. IsTextOf dialect index play.now) }
 {
-    let value = hand_value(alloc, dialect, place, play)?;
+    let value = hand_value(alloc, dialect, index, play.play())?;
     Ok(to_vec(alloc, &value)?)
 }
 
@@ -111,8 +114,5 @@ fn to_vec(alloc: Global, value: &Value) -> Result<Vec<u8>, Memory>
     ensures reads_back { IfOk result (λ text. depth (view value.now) ≤ max_depth
         → read text.items ≡ Some (view value.now)) }
 {
-    match value.to_vec(alloc) {
-        Ok(text) => Ok(text),
-        Err(_) => Err(refused_to_tree()),
-    }
+    value.to_vec(alloc).map_err(|_| refused_to_tree())
 }

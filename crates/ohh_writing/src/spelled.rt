@@ -1,6 +1,5 @@
 //! The first fact of a play that the format cannot write, and the first play that has one.
-ghost use Rattle.std.specs.Prelude.{◌≡◌, ◌≤◌, length};
-ghost use Rattle.first_fault.specs.declared.limits.TheConstants.{MOST_HANDS};
+ghost use Rattle.std.specs.Prelude.{◌≡◌};
 ghost use Rattle.ohh_writing.specs.Spelled.{first_unspelled, kept_facts, note_facts, trace_facts, unspelled};
 ghost use Rattle.ohh_writing.specs.Spelled as spelled;
 ghost use Rattle.hand_canon.specs.WriteRefusals.{first_refusal};
@@ -10,13 +9,13 @@ use crate::moment::moment_of;
 use crate::seating::numbers_spelled;
 use crate::setup::{has_spelled_antes, has_spelled_blinds, has_spelled_sizes};
 use chip_ledger::SeatRow;
-use hand_canon::{Keep, NoteName, Notes, Play, Trace, Unspelled, WriteRefusal};
+use hand_canon::{Keep, NoteName, Notes, Play, SoundPlays, Trace, Unspelled, WriteRefusal};
 
 /// The refusal of the first play that the format cannot write. The first hand has the number 1.
-pub fn find_refusal(plays: &[Play], keep: Keep) -> Option<WriteRefusal>
-    requires { length plays.now ≤ MOST_HANDS }
+pub fn find_refusal(plays: &SoundPlays<'_>, keep: Keep) -> Option<WriteRefusal>
     ensures { result ≡ first_refusal (unspelled keep) plays.now }
 {
+    let plays = plays.as_slice();
     for (index, play) in plays.iter().enumerate() {
         if let Some(fact) = spells(play, keep) {
             return Some(WriteRefusal::Unspelled {

@@ -3,6 +3,7 @@
 -- Laws of what is written.
 pub mod Bounds
 pub mod CanonWords
+pub mod Documents
 pub mod Puts
 pub mod Shape
 pub mod Spelt

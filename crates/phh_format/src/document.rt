@@ -14,7 +14,7 @@ use crate::played::put_trace;
 use crate::setup::put_setup;
 use crate::spelled::find_refusal;
 use card_set::{Memory, displayed};
-use hand_canon::{Keep, Play, WriteRefusal};
+use hand_canon::{Keep, Play, SoundPlay, SoundPlays, WriteRefusal};
 use std::alloc::Global;
 use toml::ser::Error;
 use toml::{Table, Value};
@@ -31,16 +31,14 @@ pub fn write(alloc: Global, plays: &[Play], keep: Keep) -> Result<Vec<u8>, Write
     ensures refused { IfErr result (λ refusal. IsOutOfMemory refusal
         ⊎ (first_refusal unspelled plays.now ≡ Some refusal)) }
 {
-    if let Some(refusal) = find_refusal(plays, keep) {
+    let plays = SoundPlays::new(plays);
+    if let Some(refusal) = find_refusal(&plays, keep) {
         return Err(refusal);
     }
-    if plays.is_empty() {
+    if plays.as_slice().is_empty() {
         return Ok(Vec::new(alloc));
     }
-    let table = match make_document(alloc, plays) {
-        Ok(table) => table,
-        Err(memory) => return Err(WriteRefusal::Memory(memory)),
-    };
+    let table = make_document(alloc, &plays)?;
     match toml::table_to_string(alloc, &table) {
         Ok(text) => Ok(text.into_bytes()),
         Err(Error::DateInvalid) => unreachable!(),
@@ -56,33 +54,33 @@ fn refused_by_printer() -> Memory {
 }
 
 // The document of some plays. The tables of several hands are inserted from the last to the first.
-fn make_document(alloc: Global, plays: &[Play]) -> Result<Table, Memory>
-    requires { AllByRecursion IsSound plays.now }
+fn make_document(alloc: Global, plays: &SoundPlays<'_>) -> Result<Table, Memory>
     ensures { IfOk result (λ table. table_view table ≡ document plays.now) }
 {
-    if let [play] = plays {
-        return make_hand(alloc, 0, play);
+    let count = plays.len();
+    if count == 1 {
+        return make_hand(alloc, 0, &plays.get(0));
     }
     let mut table = Table::new(alloc);
-    let mut left = plays.len();
+    let mut left = count;
     while left > 0 {
         left -= 1;
-        let hand = make_hand(alloc, left, &plays[left])?;
+        let hand = make_hand(alloc, left, &plays.get(left))?;
         let key = displayed(alloc, left + 1)?;
         put(alloc, &mut table, key.as_str(), Value::Table(hand))?;
     }
     Ok(table)
 }
 
-// The table of the hand at this place of its file, from 0.
+// The table of the hand at this index of its file, from 0.
 #[tactic(auto, unfolding(crate::specs::Document::hand_table))]
-fn make_hand(alloc: Global, place: usize, play: &Play) -> Result<Table, Memory>
-    requires { IsSound play.now }
-    ensures { IfOk result (λ table. table_view table ≡ hand_table place play.now) }
+fn make_hand(alloc: Global, index: usize, play: &SoundPlay<'_>) -> Result<Table, Memory>
+    ensures { IfOk result (λ table. table_view table ≡ hand_table index play.now) }
 {
+    let play = play.play();
     let mut table = Table::new(alloc);
     let seats = play.trace.setup.stacks.seats;
-    put_notes(alloc, &mut table, place, seats, &play.hand.notes)?;
+    put_notes(alloc, &mut table, index, seats, &play.hand.notes)?;
     put_trace(alloc, &mut table, &play.trace)?;
     put_setup(alloc, &mut table, &play.trace.setup)?;
     Ok(table)

@@ -18,18 +18,18 @@ use std::alloc::Global;
 use toml::{Table, Value};
 use toml_datetime::{Datetime, Time};
 
-/// Puts the notes of a hand with `count` seats into its table. `place` is the hand's place in its
-/// file, from 0; the default name of the hand follows from it.
+/// Puts the notes of the hand at this index of its file, from 0, with `count` seats, into its
+/// table. The default name of the hand follows from the index.
 pub fn put_notes(
     alloc: Global,
     table: &mut Table,
-    place: usize,
+    index: usize,
     count: u8,
     notes: &Notes,
 ) -> Result<(), Memory>
     requires { count ≤ 10 }
     ensures { OnOk result (table_view table.new
-        ≡ with_fields (note_fields place count notes.now) (table_view table.old)) }
+        ≡ with_fields (note_fields index count notes.now) (table_view table.old)) }
 {
     put_note(alloc, table, "time_zone", &notes.zone)?;
     put_time(alloc, table, notes.time)?;
@@ -39,7 +39,7 @@ pub fn put_notes(
     put_note(alloc, table, "currency", &notes.currency)?;
     put_note(alloc, table, "venue", &notes.venue)?;
     put_table_name(alloc, table, &notes.table)?;
-    put_hand_name(alloc, table, place, &notes.hand)?;
+    put_hand_name(alloc, table, index, &notes.hand)?;
     put_number(alloc, table, "seat_count", widened(notes.seat_count))?;
     put_seats(alloc, table, count, notes.seats)?;
     put_names(alloc, table, count, notes)
@@ -126,16 +126,16 @@ fn put_table_name(alloc: Global, table: &mut Table, name: &Option<Text>) -> Resu
 fn put_hand_name(
     alloc: Global,
     table: &mut Table,
-    place: usize,
+    index: usize,
     name: &Option<Text>,
 ) -> Result<(), Memory>
     ensures { OnOk result (table_view table.new
-        ≡ put_if (codes "hand") (hand_field place name.now) (table_view table.old)) }
+        ≡ put_if (codes "hand") (hand_field index name.now) (table_view table.old)) }
 {
     let Some(name) = name else {
         return Ok(());
     };
-    let default = displayed(alloc, place)?;
+    let default = displayed(alloc, index)?;
     if name.as_str().as_bytes() == default.as_bytes() {
         return Ok(());
     }

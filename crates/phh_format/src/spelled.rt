@@ -1,16 +1,15 @@
 //! The format can write each play in which no raise is closed by a short raise before it.
-ghost use Rattle.std.specs.Prelude.{◌≡◌, ◌≤◌, length};
-ghost use Rattle.first_fault.specs.declared.limits.TheConstants.{MOST_HANDS};
+ghost use Rattle.std.specs.Prelude.{◌≡◌};
 ghost use Rattle.phh_format.specs.Spelled.{unspelled};
 ghost use Rattle.hand_canon.specs.WriteRefusals.{first_refusal};
 
-use hand_canon::{Keep, Play, Unspelled, WriteRefusal};
+use hand_canon::{Keep, Play, SoundPlays, Unspelled, WriteRefusal};
 
 /// The refusal of the first play that the format cannot write. The first hand has the number 1.
-pub fn find_refusal(plays: &[Play], keep: Keep) -> Option<WriteRefusal>
-    requires { length plays.now ≤ MOST_HANDS }
+pub fn find_refusal(plays: &SoundPlays<'_>, keep: Keep) -> Option<WriteRefusal>
     ensures { result ≡ first_refusal unspelled plays.now }
 {
+    let plays = plays.as_slice();
     for (index, play) in plays.iter().enumerate() {
         if let Some(fact) = spells(play, keep) {
             return Some(WriteRefusal::Unspelled {

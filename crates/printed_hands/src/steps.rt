@@ -3,7 +3,6 @@ ghost use Rattle.std.specs.Prelude.{◌≡◌, ◌++◌, ◌∷◌, List, Some, 
 ghost use Rattle.std.specs.Fmt.{decimal};
 ghost use Rattle.play_event.specs.CanonScript.{move_named, plain_move};
 ghost use Rattle.hand_canon.specs.LegalPlay.{IsTraceOfLegal};
-ghost use Rattle.hand_canon.specs.Sound.{IsSound};
 ghost use Rattle.phh_actions.specs.Written.{has_words};
 ghost use Rattle.phh_actions.specs.Written as written;
 ghost use Rattle.play_event.specs.Past.{Move as PlainMove};
@@ -16,7 +15,7 @@ use crate::chips::{add, posted_row, push_chips};
 use crate::ending::push_ending;
 use card_set::{Memory, TryWrite, try_write};
 use chip_ledger::SeatRow;
-use hand_canon::{Moves, Play, Record, Trace, named_move};
+use hand_canon::{Moves, Record, SoundPlay, Trace, named_move};
 use phh_actions::event_text;
 use play_event::{Kind, Move, Setup};
 use std::alloc::Global;
@@ -27,12 +26,12 @@ pub fn push_replay_lines(
     alloc: Global,
     text: &mut String,
     number: u64,
-    play: &Play,
+    play: &SoundPlay<'_>,
 ) -> Result<(), Memory>
-    requires { IsSound play.now }
     ensures { OnOk result (string_bytes text.new
         ≡ string_bytes text.old ++ replay_lines number play.now) }
 {
+    let play = play.play();
     push_whole_lines(alloc, text, number, &play.hand, &play.trace)
 }
 

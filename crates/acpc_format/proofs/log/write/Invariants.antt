@@ -5,8 +5,8 @@ use Rattle.acpc_format.specs.Texts.{HasTexts}
 use Rattle.acpc_format.proofs.log.write.Given as goal
 
 -- what is written and the plays to come are all lines, and the names of the plays so far are texts
-abbrev pub invariant-loop-place : goal.invariant-loop-place
-invariant-loop-place l = record {
-  written : l.out.items ++ lines_from l.game.no_limit l.place (drop l.place l.plays) ≡ log_text l.game.no_limit l.plays;
-  texts : AllByRecursion HasTexts (take l.place l.plays);
+abbrev pub invariant-loop-index : goal.invariant-loop-index
+invariant-loop-index l = record {
+  written : l.out.items ++ lines_from l.game.no_limit l.index (drop l.index l.plays) ≡ log_text l.game.no_limit l.plays;
+  texts : AllByRecursion HasTexts (take l.index l.plays);
 }

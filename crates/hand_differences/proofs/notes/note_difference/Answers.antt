@@ -5,8 +5,8 @@ use Rattle.hand_differences.proofs.notes.note_difference.Goals as goal
 
 pub returns-in-Some : goal.returns-in-Some
 returns-in-Some c =
-    ap (option_map Note) (sym c.in-Some.is ∙ c.first_other.ensures ∙ ap (find (λ name. not (is_same_note (said_notes c.args.place c.args.count c.args.notes.now) (said_notes c.args.place c.args.count c.args.others.now) name))) (c.as_slice.ensures ∙ c.all-names.ensures))
+    ap (option_map Note) (sym c.in-Some.is ∙ c.first_other.ensures ∙ ap (find (λ name. not (is_same_note (said_notes c.args.index c.args.count c.args.notes.now) (said_notes c.args.index c.args.count c.args.others.now) name))) (c.as_slice.ensures ∙ c.all-names.ensures))
 
 pub returns-in-None : goal.returns-in-None
 returns-in-None c =
-    ap (option_map Note) (sym c.in-None.is ∙ c.first_other.ensures ∙ ap (find (λ name. not (is_same_note (said_notes c.args.place c.args.count c.args.notes.now) (said_notes c.args.place c.args.count c.args.others.now) name))) (c.as_slice.ensures ∙ c.all-names.ensures))
+    ap (option_map Note) (sym c.in-None.is ∙ c.first_other.ensures ∙ ap (find (λ name. not (is_same_note (said_notes c.args.index c.args.count c.args.notes.now) (said_notes c.args.index c.args.count c.args.others.now) name))) (c.as_slice.ensures ∙ c.all-names.ensures))

@@ -13,8 +13,8 @@ returns c =
     let notes = c.args.play.now.hand.notes in
     let begun = c.in_ok-put_setup.ensures ∙ ap (λ entries. with_setup trace.setup (members_view entries)) c.new-ohh.ensures.empty in
     let seated = c.in_ok-put_seating.ensures ∙ ap (with_seating trace.setup notes) begun in
-    let named = c.in_ok-put_names.ensures ∙ ap (with_names c.args.place notes) seated in
+    let named = c.in_ok-put_names.ensures ∙ ap (with_names c.args.index notes) seated in
     let played = c.in_ok-put_play.ensures ∙ ap (with_play c.args.dialect trace) named in
     let versioned = c.in_ok-put_versions.ensures ∙ ap with_versions played in
     let dated = c.in_ok-put_date.ensures ∙ ap (with_date (moment_of notes)) versioned in
-    view-Object c.put_date.new.ohh ∙ ap object (dated ∙ hand_sorted c.args.dialect c.args.place trace notes)
+    view-Object c.put_date.new.ohh ∙ ap object (dated ∙ hand_sorted c.args.dialect c.args.index trace notes)

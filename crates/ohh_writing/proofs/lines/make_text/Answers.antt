@@ -13,21 +13,22 @@ use Rattle.hand_canon.specs.SoundRecord.{script_said}
 
 pub hand_value-requires : goal.hand_value-requires
 hand_value-requires c =
-    let hand = c.args.play.now.hand in
-    subst IsTidy (sym c.requires.trace.core) (tidy_within hand.setup hand.rules (script_said hand) c.requires.legal.played c.requires.within.moves)
+    let hand = c.play.result.now.hand in
+    let sound = c.play.ensures.sound in
+    subst IsTidy (sym sound.trace.core) (tidy_within hand.setup hand.rules (script_said hand) sound.legal.played sound.within.moves)
 
 pub returns-clause-text : goal.returns-clause-text
 returns-clause-text c =
-    let tree = hand_tree c.args.dialect c.args.place c.args.play.now in
-    let plain = hand_plain c.args.dialect c.args.place c.args.play.now in
-    let seen : view c.in_ok-value.value ≡ tree = c.in_ok-value.ensures in
+    let tree = hand_tree c.args.dialect c.args.index c.args.play.now in
+    let plain = hand_plain c.args.dialect c.args.index c.args.play.now in
+    let seen : view c.in_ok-value.value ≡ tree = c.in_ok-value.ensures ∙ ap (hand_tree c.args.dialect c.args.index) c.play.ensures.same in
     c.in_ok-to_vec.ensures.text (ap has_float seen ∙ plain.whole) ∙ ap compact_text seen
 
 pub returns-clause-read : goal.returns-clause-read
 returns-clause-read c =
-    let tree = hand_tree c.args.dialect c.args.place c.args.play.now in
-    let plain = hand_plain c.args.dialect c.args.place c.args.play.now in
-    let seen : view c.in_ok-value.value ≡ tree = c.in_ok-value.ensures in
+    let tree = hand_tree c.args.dialect c.args.index c.args.play.now in
+    let plain = hand_plain c.args.dialect c.args.index c.args.play.now in
+    let seen : view c.in_ok-value.value ≡ tree = c.in_ok-value.ensures ∙ ap (hand_tree c.args.dialect c.args.index) c.play.ensures.same in
     let text = c.in_ok-to_vec.ensures.text (ap has_float seen ∙ plain.whole) ∙ ap compact_text seen in
     let deep = ap depth seen in
     record {

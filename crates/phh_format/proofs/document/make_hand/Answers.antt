@@ -6,5 +6,6 @@ use Rattle.phh_format.proofs.document.make_hand.Goals as goal
 
 pub put_trace-requires-clause-tidy : goal.put_trace-requires-clause-tidy
 put_trace-requires-clause-tidy c =
-    let hand = c.args.play.now.hand in
-    subst IsTidy (sym c.requires.trace.core) (tidy_within hand.setup hand.rules (script_said hand) c.requires.legal.played c.requires.within.moves)
+    let hand = c.play-play.result.now.hand in
+    let sound = c.play-play.ensures.sound in
+    subst IsTidy (sym sound.trace.core) (tidy_within hand.setup hand.rules (script_said hand) sound.legal.played sound.within.moves)

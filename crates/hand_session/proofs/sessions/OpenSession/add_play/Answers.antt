@@ -1,9 +1,12 @@
 -- One more hand.
 use Rattle.std.proofs.Common.{◌≡◌, ℕ, ◌+◌, ◌-◌, cond, List, [], ◌∷◌, ◌++◌, map, fold, sum_by, length, length-append, sym, ap, subst, ◌∙◌, arith}
 use Rattle.std.proofs.lemmas.List.{length-map, map-append}
+use Rattle.hand_canon.specs.declared.trace.Play.{Play}
 use Rattle.printed_hands.specs.Names.{with_name}
+use Rattle.hand_session.specs.declared.sessions.OpenSession.{OpenSession}
 use Rattle.hand_session.specs.declared.steps.Step.{Step}
 use Rattle.hand_session.specs.Hands.{Hand, hand_of}
+use Rattle.hand_session.specs.SoFar.{IsSessionSoFar}
 use Rattle.hand_session.specs.Sessions.{names_among, names_of, session_of_name, steps_after}
 use Rattle.hand_session.specs.Visits.{IsOfHands, session_at, session_names, steps_of_names, visit_in, with_names, with_visit}
 use Rattle.hand_session.proofs.SeatNames.{any_names, distinct_names, names_of_more}
@@ -14,33 +17,33 @@ use Rattle.hand_session.proofs.VisitBounds.{visit_within}
 use Rattle.hand_session.proofs.sessions.OpenSession.add_play.Goals as goal
 
 pub overflow_add-number : goal.overflow_add-number
-overflow_add-number c = omega (arith, c.requires.begun.1.hands, c.requires.begun.2)
+overflow_add-number c = omega (arith, c.requires.1.hands, c.requires.2)
 
 pub add_hand-requires-clause-hand : goal.add_hand-requires-clause-hand
 add_hand-requires-clause-hand c = record {
-  names = c.requires.begun.1.indexed;
+  names = c.requires.1.indexed;
   first = omega arith;
-  few = omega (arith, c.requires.begun.1.hands, c.requires.begun.2);
+  few = omega (arith, c.requires.1.hands, c.requires.2);
 }
 
 pub add_hand-requires-clause-within : goal.add_hand-requires-clause-within
 add_hand-requires-clause-within c name =
-    let before = c.requires.begun.0 in
-    let so_far = c.requires.begun.1 in
+    let before = c.requires.0 in
+    let so_far = c.requires.1 in
     let same : length before ≡ c.args.self.now.hands + 1 - 1 = omega (arith, so_far.hands) in
     subst (λ (count : ℕ). IsOfHands count (session_at c.args.self.now.ledger.rows.items name)) same
     (subst (IsOfHands (length before)) (sym (so_far.rows name)) (so_far.within name))
 
 pub rakes_of-rake-requires : goal.rakes_of-rake-requires
-rakes_of-rake-requires c = omega (arith, rake_within c.args.play.now c.requires.sound)
+rakes_of-rake-requires c = omega (arith, rake_within c.play-play.result.now c.play-play.ensures.sound)
 
 pub overflow_add-self : goal.overflow_add-self
 overflow_add-self c =
-    omega (arith, rake_within c.args.play.now c.requires.sound, c.rakes_of-rake.ensures, c.requires.begun.1.few, c.requires.begun.2)
+    omega (arith, rake_within c.play-play.result.now c.play-play.ensures.sound, c.rakes_of-rake.ensures, c.requires.1.few, c.requires.2)
 
 pub returns : goal.returns
 returns c = λ before so_far.
-    let play = c.args.play.now in
+    let play = c.play-play.result.now in
     let hand = hand_of play in
     let hands = map hand_of before in
     let rows = c.args.self.now.ledger.rows.items in
@@ -48,7 +51,9 @@ returns c = λ before so_far.
     let many : length hands ≡ length before = length-map before hand_of in
     let one_more : length (before ++ play ∷ []) ≡ length before + 1 = length-append before (play ∷ []) in
     let rows_are : c.add_hand.new.ledger.rows.items ≡ with_names hand rows (names_among hand.seats) = c.in_ok-add_hand.ensures.rows in
-    record {
+    let it : OpenSession =
+    record { ledger = c.add_hand.new.ledger; hands = c.args.self.now.hands + 1; rake = c.args.self.now.rake + c.rakes_of-rake.result } in
+    subst (λ (play : Play). IsSessionSoFar it (before ++ play ∷ [])) c.play-play.ensures.same (record {
       indexed = c.in_ok-add_hand.ensures.names;
       names =
           ap session_names rows_are
@@ -81,5 +86,5 @@ returns c = λ before so_far.
             rakes_more hands hand,
             ap (λ some. sum_by (λ (one : Hand). one.rake) some) more,
           );
-      few = omega (arith, rake_within play c.requires.sound, c.rakes_of-rake.ensures, so_far.few, one_more);
-    }
+      few = omega (arith, rake_within play c.play-play.ensures.sound, c.rakes_of-rake.ensures, so_far.few, one_more);
+    })
