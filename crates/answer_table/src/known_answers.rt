@@ -4,8 +4,9 @@ ghost use Rattle.std.specs.Prelude.{◌≡◌, ◌⊎◌, ◌↔◌, ◌≤◌, 
 ghost use Rattle.std.specs.List.{AllByRecursion};
 ghost use Rattle.acpc_game.specs.declared.game.Game.{Game};
 ghost use Rattle.chip_ledger.specs.declared.numbers.Seat.{Seat};
-ghost use Rattle.command_words.specs.Words.{Load, Request};
-ghost use Rattle.command_words.specs.declared.command.Command.{Command};
+ghost use Rattle.command_words.specs.Command as commands;
+ghost use Rattle.command_words.specs.Command.{Command, reads_input};
+ghost use Rattle.command_words.specs.Words.{Plain, Request};
 ghost use Rattle.hand_canon.specs.Sound.{IsSound};
 ghost use Rattle.hand_equity.specs.Street.{deals_board, first_unknown};
 ghost use Rattle.hand_canon.specs.SameHands.{AreSameHands, kept_notes};
@@ -18,7 +19,8 @@ ghost use Rattle.ohh_members.specs.declared.dialect.Dialect.{Dialect};
 ghost use Rattle.poker_cli.specs.Answer.{IsAnswer, IsReply};
 ghost use Rattle.poker_cli.specs.AnswerParts.{Answer, hand_numbered, most_input};
 ghost use Rattle.poker_cli.specs.Files.{Files};
-ghost use Rattle.poker_cli.specs.Compare.{AsksToCompare, IsComparison, compared};
+ghost use Rattle.poker_cli.specs.Asked.{IsAsked};
+ghost use Rattle.poker_cli.specs.Compare.{compared};
 ghost use Rattle.poker_cli.specs.ComparedRuns.{AreFoundOther, AreFoundSame, AreOther, AreSame, BothRead, FindsOther};
 ghost use Rattle.poker_cli.specs.Headline.{ConversionEnds, ConvertsInto};
 ghost use Rattle.convert_core.specs.Formats.{AreSameIn, SayRecords, first_lines, first_refusal_in, kept_in, unspelled_in};
@@ -27,13 +29,10 @@ ghost use Rattle.poker_cli.specs.OneAnswer.{AreOneAnswer};
 ghost use Rattle.poker_cli.specs.Views.{AreViews, each_view, most_view_bytes};
 ghost use Rattle.poker_cli.specs.Run.{Ends, NeedsNoInput, RefusesNothing, Sinks};
 ghost use Rattle.poker_cli.specs.RunReports.{report_by};
-ghost use Rattle.poker_cli.specs.Ways.{IsWay, way};
-ghost use Rattle.poker_cli.specs.declared.compare.Comparison.{Comparison};
 ghost use Rattle.poker_cli.specs.declared.status.Status.{Status};
 ghost use Rattle.poker_cli.specs.declared.status.Status.TheVariants as statuses;
 ghost use Rattle.convert_core.specs.declared.format.Format.{Format};
 ghost use Rattle.convert_core.specs.declared.format.Format.TheVariants as readers;
-ghost use Rattle.command_words.specs.declared.command.Command.TheVariants as commands;
 ghost use Rattle.convert_core.specs.Conversion.{ReadAsPlays};
 ghost use Rattle.convert_core.specs.SameAnswers.{AreSameAnswers};
 
@@ -45,12 +44,10 @@ use poker_cli::{
 
 /// An input has one answer.
 pub fn answer_is_one()
-    ensures command { (command : Command Format) (reader : Format) (bytes : List ℕ)
-        → (answer other : Answer) → IsAnswer command reader bytes answer
-        → IsAnswer command reader bytes other
+    ensures { (command : Command Format) (bytes : List ℕ) (answer other : Answer)
+        → reads_input command ≡ true
+        → IsAnswer command bytes answer → IsAnswer command bytes other
         → AreOneAnswer command answer other }
-    ensures comparison { (by : Comparison) (file bytes : List ℕ) (answer other : Answer)
-        → IsComparison by file bytes answer → IsComparison by file bytes other → answer ≡ other }
 {
     law_of_one_answer();
 }
@@ -69,59 +66,60 @@ pub fn hands_have_lines()
 
 /// No legal input is refused.
 pub fn legal_inputs_are_answered()
-    ensures show { (request : Request) (command : Command Format) (reader : Format)
-        → (files : Files) (bytes : List ℕ) (plays : List Play) (out diag : Sinks)
-        → (status : Status) → PrintsAll command
-        → AsksOfLegal files request command reader bytes plays
+    ensures show { (request : Request) (command : Command Format) (files : Files)
+        → (bytes : List ℕ) (plays : List Play) (out diag : Sinks) (status : Status)
+        → PrintsAll command → AsksOfLegal files request command bytes plays
         → Ends request files bytes out diag status → RefusesNothing status }
-    ensures ask { (request : Request) (command : Command Format) (reader : Format)
-        → (files : Files) (bytes : List ℕ) (plays : List Play) (reply : Answer)
+    ensures ask { (request : Request) (command : Command Format) (files : Files)
+        → (bytes : List ℕ) (plays : List Play) (reply : Answer)
         → (out diag : Sinks) (status : Status)
-        → AsksOfLegal files request command reader bytes plays
-        → IsReply command reader plays reply → Ends request files bytes out diag status
+        → AsksOfLegal files request command bytes plays
+        → IsReply command plays reply → Ends request files bytes out diag status
         → RefusesNothing status ⊎ (reply.status ≡ status) }
     ensures options { (request : Request) (hand events : ℕ) (reader : Format) (files : Files)
         → (bytes : List ℕ) (plays : List Play) (play : Play) (out diag : Sinks) (status : Status)
-        → AsksOfLegal files request (commands.Options hand events) reader bytes plays
+        → AsksOfLegal files request (commands.Options reader hand events) bytes plays
         → hand_numbered plays hand ≡ Some play → events ≤ length play.hand.script
         → Ends request files bytes out diag status → RefusesNothing status }
     ensures equity { (request : Request) (hand street : ℕ) (reader : Format) (files : Files)
         → (bytes : List ℕ) (plays : List Play) (play : Play) (out diag : Sinks) (status : Status)
-        → AsksOfLegal files request (commands.Equity hand street) reader bytes plays
+        → AsksOfLegal files request (commands.Equity reader hand street) bytes plays
         → hand_numbered plays hand ≡ Some play → deals_board play.trace street ≡ true
         → first_unknown play.trace street ≡ None
         → Ends request files bytes out diag status → RefusesNothing status }
     ensures views { (request : Request) (game : Game) (seat : Seat)
         → (files : Files) (bytes : List ℕ) (plays : List Play) (reply : Answer)
         → (out diag : Sinks) (status : Status)
-        → AsksOfLegal files request (commands.Views seat) (readers.Acpc game) bytes plays
+        → AsksOfLegal files request (commands.Views (readers.Acpc game) seat) bytes plays
         → AreViews game seat plays reply → Ends request files bytes out diag status
         → RefusesNothing status ⊎ (reply.status ≡ status) }
     ensures seen { (request : Request) (game : Game) (seat : Seat)
         → (files : Files) (bytes : List ℕ) (plays : List Play) (out diag : Sinks)
         → (status : Status)
-        → AsksOfLegal files request (commands.Views seat) (readers.Acpc game) bytes plays
+        → AsksOfLegal files request (commands.Views (readers.Acpc game) seat) bytes plays
         → seat.number ≤ game.stacks.seats
         → length (each_view game seat 0 plays) ≤ most_view_bytes
         → Ends request files bytes out diag status → RefusesNothing status }
     ensures judge { (request : Request) (lines : Bool) (reader : Format) (files : Files)
         → (bytes : List ℕ) (records : List Record) (out diag : Sinks) (status : Status)
-        → IsWay files request (way (commands.Judge lines) reader)
+        → IsAsked files request (commands.Judge reader lines)
         → length bytes ≤ most_input → SayRecords reader bytes records
         → Ends request files bytes out diag status → RefusesNothing status }
     ensures convert { (request : Request) (reader target : Format) (keep : Keep) (files : Files)
         → (bytes : List ℕ) (plays : List Play) (out diag : Sinks) (status : Status)
-        → AsksOfLegal files request (commands.Convert target keep) reader bytes plays
+        → AsksOfLegal files request (commands.Convert reader target keep) bytes plays
         → first_refusal_in target keep plays ≡ None
         → Ends request files bytes out diag status → RefusesNothing status }
-    ensures compare { (request : Request) (by : Comparison) (files : Files) (text bytes : List ℕ)
-        → (plays others : List Play) (out diag : Sinks) (status : Status)
-        → AsksToCompare files request by text → BothRead by text bytes plays others
+    ensures compare { (request : Request) (reader other : Format) (notes : Bool) (files : Files)
+        → (text bytes : List ℕ) (plays others : List Play) (out diag : Sinks) (status : Status)
+        → IsAsked files request (commands.Compare reader other text notes)
+        → BothRead reader other text bytes plays others
         → Ends request files bytes out diag status
-        → RefusesNothing status ⊎ ((compared by.notes plays others).status ≡ status) }
+        → RefusesNothing status ⊎ ((compared notes plays others).status ≡ status) }
     ensures load { (seed hands : ℕ) (files : Files) (bytes : List ℕ)
         → (out diag : Sinks) (status : Status)
-        → Ends (Load seed hands) files bytes out diag status → NeedsNoInput status }
+        → Ends (Plain (commands.Load seed hands)) files bytes out diag status
+        → NeedsNoInput status }
 {
     law_of_legal_inputs();
 }
@@ -148,23 +146,23 @@ pub fn answers_to_equal_hands_are_the_same()
     ensures equal { (from other to : Format) (keep : Keep) (bytes too : List ℕ)
         → (plays others : List Play) (answer written : Answer)
         → ReadAsPlays (SayRecords from bytes) plays → ReadAsPlays (SayRecords other too) others
-        → IsAnswer (commands.Convert to keep) from bytes answer → answer.status ≡ statuses.Done
-        → IsAnswer (commands.Convert to keep) other too written → written.status ≡ statuses.Done
+        → IsAnswer (commands.Convert from to keep) bytes answer → answer.status ≡ statuses.Done
+        → IsAnswer (commands.Convert other to keep) too written → written.status ≡ statuses.Done
         → AreSameHands (kept_notes keep (kept_in to)) plays others
         ↔ AreSameIn to answer.output written.output }
     ensures again { (from to : Format) (keep again : Keep) (bytes : List ℕ) (answer other : Answer)
-        → IsAnswer (commands.Convert to keep) from bytes answer → answer.status ≡ statuses.Done
+        → IsAnswer (commands.Convert from to keep) bytes answer → answer.status ≡ statuses.Done
         → length answer.output ≤ most_input
-        → IsAnswer (commands.Convert to again) to answer.output other
+        → IsAnswer (commands.Convert to to again) answer.output other
         → (other.status ≡ statuses.Done) × AreSameIn to answer.output other.output }
     ensures by_way { (from by to : Format) (keep : Keep) (bytes : List ℕ)
         → (halfway straight by_way : Answer)
-        → IsAnswer (commands.Convert by keeps.All) from bytes halfway
+        → IsAnswer (commands.Convert from by keeps.All) bytes halfway
         → halfway.status ≡ statuses.Done
         → length halfway.output ≤ most_input
-        → IsAnswer (commands.Convert to keep) from bytes straight
-        → IsAnswer (commands.Convert to keep) by halfway.output by_way
-        → AreOneAnswer (commands.Convert to keep) straight by_way }
+        → IsAnswer (commands.Convert from to keep) bytes straight
+        → IsAnswer (commands.Convert by to keep) halfway.output by_way
+        → AreOneAnswer (commands.Convert from to keep) straight by_way }
 {
     law_of_equal_answers();
 }
@@ -222,21 +220,26 @@ pub fn same_hands_compare_as_the_same()
 
 /// A run of `compare` finds the same hands if and only if they are the same.
 pub fn comparison_finds_the_same_hands()
-    ensures done { (request : Request) (by : Comparison) (files : Files) (text bytes : List ℕ)
-        → (out diag : Sinks) → AsksToCompare files request by text
-        → Ends request files bytes out diag statuses.Done → AreFoundSame by text bytes out }
-    ensures differs { (request : Request) (by : Comparison) (files : Files) (text bytes : List ℕ)
-        → (out diag : Sinks) → AsksToCompare files request by text
-        → Ends request files bytes out diag statuses.Differs → AreFoundOther by text bytes diag }
-    ensures same { (request : Request) (by : Comparison) (files : Files) (text bytes : List ℕ)
-        → (plays others : List Play) (out diag : Sinks) (status : Status)
-        → AsksToCompare files request by text → BothRead by text bytes plays others
-        → AreSame by.notes plays others
+    ensures done { (request : Request) (from other : Format) (notes : Bool) (files : Files)
+        → (text bytes : List ℕ) (out diag : Sinks)
+        → IsAsked files request (commands.Compare from other text notes)
+        → Ends request files bytes out diag statuses.Done
+        → AreFoundSame from other notes text bytes out }
+    ensures differs { (request : Request) (from other : Format) (notes : Bool) (files : Files)
+        → (text bytes : List ℕ) (out diag : Sinks)
+        → IsAsked files request (commands.Compare from other text notes)
+        → Ends request files bytes out diag statuses.Differs
+        → AreFoundOther from other notes text bytes diag }
+    ensures same { (request : Request) (from other : Format) (notes : Bool) (files : Files)
+        → (text bytes : List ℕ) (plays others : List Play) (out diag : Sinks) (status : Status)
+        → IsAsked files request (commands.Compare from other text notes)
+        → BothRead from other text bytes plays others → AreSame notes plays others
         → Ends request files bytes out diag status → RefusesNothing status }
-    ensures different { (request : Request) (by : Comparison) (files : Files) (text bytes : List ℕ)
-        → (plays others : List Play) (out diag : Sinks) (status : Status)
-        → AsksToCompare files request by text → BothRead by text bytes plays others
-        → (AreSame by.notes plays others → ⊥)
+    ensures different { (request : Request) (from other : Format) (notes : Bool) (files : Files)
+        → (text bytes : List ℕ) (plays others : List Play) (out diag : Sinks) (status : Status)
+        → IsAsked files request (commands.Compare from other text notes)
+        → BothRead from other text bytes plays others
+        → (AreSame notes plays others → ⊥)
         → Ends request files bytes out diag status → FindsOther status }
 {
     law_of_comparisons();
@@ -249,7 +252,7 @@ pub fn conversion_compares_as_its_source()
         → (bytes output : List ℕ) (out diag : Sinks) (status : Status)
         → (into : ConvertsInto from to keep bytes output)
         → (notes ≡ true → first_refusal_in to keeps.All into.plays ≡ None)
-        → AsksToCompare files request (record { from = from; other = to; notes = notes }) output
+        → IsAsked files request (commands.Compare from to output notes)
         → Ends request files bytes out diag status → RefusesNothing status }
     ensures output { (request : Request) (files : Files) (from to : Format) (keep : Keep)
         (notes : Bool)
@@ -257,7 +260,7 @@ pub fn conversion_compares_as_its_source()
         → (into : ConvertsInto from to keep bytes output)
         → (notes ≡ true → first_refusal_in to keeps.All into.plays ≡ None)
         → length output ≤ most_input
-        → AsksToCompare files request (record { from = to; other = from; notes = notes }) bytes
+        → IsAsked files request (commands.Compare to from bytes notes)
         → Ends request files output out diag status → RefusesNothing status }
 {
     law_of_compared_conversions();
@@ -268,7 +271,7 @@ pub fn files_of_one_output_compare_as_the_same()
     ensures { (request : Request) (files : Files) (from other to : Format)
         → (bytes too output written : List ℕ) (out diag : Sinks) (status : Status)
         → ConvertsInto from to keeps.All bytes output → ConvertsInto other to keeps.All too written
-        → AsksToCompare files request (record { from = from; other = other; notes = true }) too
+        → IsAsked files request (commands.Compare from other too true)
         → Ends request files bytes out diag status
         → (AreSameIn to output written → RefusesNothing status)
         × (status ≡ statuses.Done → AreSameIn to output written) }

@@ -1,14 +1,18 @@
 -- What the words of `equity` ask for.
-use Rattle.std.specs.Prelude.{if◌then◌else◌, Option, None, option_and_then}
+use Rattle.std.specs.Prelude.{ℕ, if◌then◌else◌, List, Option, None, Some, option_and_then, option_map}
 use Rattle.command_words.specs.GivenOptions.{GivenOptions, are_none}
+use Rattle.command_words.specs.Command.{Command, with_both}
+use Rattle.command_words.specs.Notations.{notation_named}
 use Rattle.command_words.specs.Numbers.{hand_said, street_said}
-use Rattle.command_words.specs.Request.{Request, asked, with_both}
-use Rattle.command_words.specs.declared.command.Command.TheVariants as commands
+use Rattle.command_words.specs.Command as commands
+use Rattle.command_words.specs.declared.notation.NotationName.{NotationName}
 
 -- `equity` takes --from, --game for logs, --hand and --street
-abbrev pub equity_asked : GivenOptions → Option Request
+abbrev pub equity_asked : GivenOptions → Option (Command NotationName)
 equity_asked options =
     if are_none (record options { from = None; game = None; hand = None; street = None })
-    then with_both (λ hand street. asked options (commands.Equity hand street))
-    (option_and_then hand_said options.hand) (option_and_then street_said options.street)
+    then with_both
+    (λ from hand. option_map (λ street. commands.Equity from hand street)
+    (option_and_then street_said options.street))
+    (notation_named options.from) (option_and_then hand_said options.hand)
     else None

@@ -1,28 +1,31 @@
 -- What the words of `options` ask for.
-use Rattle.std.specs.Prelude.{ℕ, false, if◌then◌else◌, List, Option, Some, None, option_and_then}
+use Rattle.std.specs.Prelude.{ℕ, Bool, false, if◌then◌else◌, List, Option, Some, None, option_and_then, option_map}
 use Rattle.command_words.specs.GivenOptions.{GivenOptions, are_none}
+use Rattle.command_words.specs.Command.{Command, with_both}
+use Rattle.command_words.specs.Notations.{notation_named}
 use Rattle.command_words.specs.Numbers.{events_said, hand_said}
-use Rattle.command_words.specs.Request.{Request, asked, asked_each}
-use Rattle.command_words.specs.declared.command.Command.TheVariants as commands
+use Rattle.command_words.specs.Command as commands
 use Rattle.command_words.specs.declared.command.EachQuestion.TheVariants as of_each
+use Rattle.command_words.specs.declared.notation.NotationName.{NotationName}
 
 -- the legal moves after this number of events of a hand; with --each whatever the other hands are
-abbrev pub point_asked : GivenOptions → (hand events : ℕ) → Option Request
-point_asked options hand events =
-    if options.asks_each then asked_each options (of_each.Point hand events)
-    else asked options (commands.Options hand events)
+abbrev pub point_asked : (each : Bool) → NotationName → (hand events : ℕ)
+    → Command NotationName
+point_asked each from hand events =
+    if each then commands.Each from (of_each.Point hand events)
+    else commands.Options from hand events
 
 -- the legal moves after the given number of events of a hand; at every point of it if none is given
-abbrev pub points_asked : GivenOptions → (after : Option (List ℕ)) → (hand : ℕ) → Option Request
-points_asked options None hand = asked_each options (of_each.EveryPoint hand)
-points_asked options (Some text) hand =
-    option_and_then (point_asked options hand) (events_said text)
+abbrev pub points_asked : (each : Bool) → (after : Option (List ℕ)) → NotationName → (hand : ℕ)
+    → Option (Command NotationName)
+points_asked each None from hand = Some (commands.Each from (of_each.EveryPoint hand))
+points_asked each (Some text) from hand = option_map (point_asked each from hand) (events_said text)
 
 -- `options` takes --from, --game for logs, --hand, --after and --each
-abbrev pub options_asked : GivenOptions → Option Request
+abbrev pub options_asked : GivenOptions → Option (Command NotationName)
 options_asked options =
     if are_none (record options
     { from = None; game = None; hand = None; after = None; asks_each = false })
-    then option_and_then (points_asked options options.after)
+    then with_both (points_asked options.asks_each options.after) (notation_named options.from)
     (option_and_then hand_said options.hand)
     else None

@@ -1,14 +1,19 @@
 -- What the words of `replay` ask for.
-use Rattle.std.specs.Prelude.{if◌then◌else◌, false, Option, None}
+use Rattle.std.specs.Prelude.{ℕ, Bool, if◌then◌else◌, false, List, Option, None, option_map}
 use Rattle.command_words.specs.GivenOptions.{GivenOptions, are_none}
-use Rattle.command_words.specs.Request.{Request, asked, asked_each}
-use Rattle.command_words.specs.declared.command.Command.TheVariants as commands
+use Rattle.command_words.specs.Notations.{notation_named}
+use Rattle.command_words.specs.Command as commands
+use Rattle.command_words.specs.Command.{Command}
 use Rattle.command_words.specs.declared.command.EachQuestion.TheVariants as of_each
+use Rattle.command_words.specs.declared.notation.NotationName.{NotationName}
+
+-- all hands step by step, each by itself or all together
+abbrev pub replay_of : (each : Bool) → NotationName → Command NotationName
+replay_of each from = if each then commands.Each from of_each.Replay else commands.Replay from
 
 -- `replay` takes --from, --game for logs, and --each
-abbrev pub replay_asked : GivenOptions → Option Request
+abbrev pub replay_asked : GivenOptions → Option (Command NotationName)
 replay_asked options =
     if are_none (record options { from = None; game = None; asks_each = false })
-    then if options.asks_each then asked_each options of_each.Replay
-    else asked options commands.Replay
+    then option_map (replay_of options.asks_each) (notation_named options.from)
     else None

@@ -1,16 +1,17 @@
 -- What the requests and options of the code mean.
-use Rattle.std.specs.Prelude.{◌≡◌, ℕ, Bool, true, false, List, Some, codes, drop, option_map, slice_get}
+use Rattle.std.specs.Prelude.{◌≡◌, ℕ, Bool, true, false, List, [], Some, codes, drop, option_map, slice_get, unwrap_or}
 use Rattle.clap.specs.Words.{first_value}
 use Rattle.clap.specs.Matches.{one_text}
 use Rattle.clap.specs.declared.parser.matches.Found.{Found}
+use Rattle.command_words.specs.Command.{Command, command_in}
 use Rattle.command_words.specs.GivenOptions as words
 use Rattle.command_words.specs.GivenOptions.{no_options, options_said}
 use Rattle.command_words.specs.Words as said
 use Rattle.command_words.specs.declared.given_options.GivenOptions.{GivenOptions}
+use Rattle.command_words.specs.declared.log_command.LogCommand.{LogCommand}
+use Rattle.command_words.specs.declared.notation.NotationName.{NotationName}
 use Rattle.command_words.specs.declared.request.Request.{Request}
 use Rattle.command_words.specs.declared.request.Request.TheVariants as requests
-use Rattle.command_words.specs.declared.request.Sides.{Sides}
-use Rattle.command_words.specs.declared.request.Sides.TheVariants as sides_are
 
 -- the values of options, as texts
 abbrev pub options_in : GivenOptions → words.GivenOptions
@@ -32,17 +33,18 @@ options_in options = record {
   asks_each = options.asks_each;
 }
 
--- the notations of two files, with the name of the game's file
-abbrev pub sides_in : Sides → said.Sides
-sides_in (sides_are.Plain from other) = said.PlainSides from other
-sides_in (sides_are.Under game from other) = said.SidesUnder game.now from other
+-- the name of the other file; empty if none is given
+abbrev pub file_given : words.GivenOptions → List ℕ
+file_given options = unwrap_or options.other_file []
 
--- a request, with the names of its files and its number of hands
+-- a command about logs, with the name of its other file
+abbrev pub log_command_in : LogCommand → Command NotationName
+log_command_in log = command_in log.file.now log.command
+
+-- a request, with the names of its files
 abbrev pub request_in : Request → said.Request
-request_in (requests.Load seed hands) = said.Load seed hands.number
-request_in (requests.Plain from command) = said.Plain from command
-request_in (requests.Under game logs) = said.Under game.now logs
-request_in (requests.Compare sides file notes) = said.Compare (sides_in sides) file.now notes
+request_in (requests.Plain command file) = said.Plain (command_in file.now command)
+request_in (requests.Under log) = said.Under log.game.now (log_command_in log)
 
 -- the text of a flag
 abbrev pub flag_text : Bool → List ℕ

@@ -1,9 +1,11 @@
 -- What the words of `session` ask for.
-use Rattle.std.specs.Prelude.{Option}
+use Rattle.std.specs.Prelude.{ℕ, List, Option, option_map}
 use Rattle.command_words.specs.GivenOptions.{GivenOptions}
-use Rattle.command_words.specs.Request.{Request, asked_alone}
-use Rattle.command_words.specs.declared.command.Command.TheVariants as commands
+use Rattle.command_words.specs.Request.{input_alone}
+use Rattle.command_words.specs.Command as commands
+use Rattle.command_words.specs.Command.{Command}
+use Rattle.command_words.specs.declared.notation.NotationName.{NotationName}
 
 -- `session` takes --from, and --game for logs
-abbrev pub session_asked : GivenOptions → Option Request
-session_asked options = asked_alone commands.Session options
+abbrev pub session_asked : GivenOptions → Option (Command NotationName)
+session_asked options = option_map (λ from. commands.Session from) (input_alone options)

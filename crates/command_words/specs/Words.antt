@@ -1,5 +1,5 @@
 -- What a command line asks for: the word of a command, followed by its options and no others.
-pub use Rattle.command_words.specs.Request.{Compare, Load, Plain, PlainSides, Request, Sides, SidesUnder, Under}
+pub use Rattle.command_words.specs.Request.{Plain, Request, Under}
 use Rattle.std.specs.Prelude.{ℕ, if◌then◌else◌, List, [], ◌∷◌, codes, Option, None, option_and_then}
 use Rattle.std.specs.Str.{bytes_eq}
 use Rattle.command_words.specs.Check.{check_asked}
@@ -12,13 +12,16 @@ use Rattle.command_words.specs.Judge.{judge_asked}
 use Rattle.command_words.specs.Load.{load_asked}
 use Rattle.command_words.specs.Options.{options_asked}
 use Rattle.command_words.specs.Replay.{replay_asked}
+use Rattle.command_words.specs.Request.{under_game}
 use Rattle.command_words.specs.Report.{report_asked}
 use Rattle.command_words.specs.Session.{session_asked}
 use Rattle.command_words.specs.Views.{views_asked}
+use Rattle.command_words.specs.Command.{Command}
+use Rattle.command_words.specs.declared.notation.NotationName.{NotationName}
 
--- what the word of a command asks for with these options
-abbrev pub request_by : List ℕ → GivenOptions → Option Request
-request_by word options =
+-- the command of this word with these options, without the game file
+abbrev pub command_by : List ℕ → GivenOptions → Option (Command NotationName)
+command_by word options =
     if bytes_eq word (codes "check") then check_asked options
     else if bytes_eq word (codes "replay") then replay_asked options
     else if bytes_eq word (codes "report") then report_asked options
@@ -32,6 +35,10 @@ request_by word options =
     else if bytes_eq word (codes "judge") then judge_asked options
     else if bytes_eq word (codes "compare") then comparison_asked options
     else None
+
+-- what the word of a command asks for with these options
+abbrev pub request_by : List ℕ → GivenOptions → Option Request
+request_by word options = option_and_then (under_game options.game) (command_by word options)
 
 -- what the words of a command line ask for; none if they are no command
 abbrev pub request_said : List (List ℕ) → Option Request

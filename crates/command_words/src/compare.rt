@@ -1,15 +1,17 @@
 //! The words of `compare`: whether two files have the same hands.
 ghost use Rattle.std.specs.Prelude.{◌≡◌, option_map};
-ghost use Rattle.command_words.specs.Requests.{options_in, request_in, sides_in};
-ghost use Rattle.command_words.specs.Compare.{comparison_asked, file_named as file_named_said, sides_of as sides_of_said};
+ghost use Rattle.command_words.specs.Command.{command_in};
+ghost use Rattle.command_words.specs.Requests.{file_given, options_in};
+ghost use Rattle.command_words.specs.Compare.{comparison_asked, file_named as file_named_said};
 
+use crate::command::Command;
 use crate::given_options::{GivenOptions, are_none};
 use crate::notation::{NotationName, notation_named};
-use crate::request::{Request, Sides};
 
 /// Whether hands are the same as those of another file.
-pub fn request<'a>(options: GivenOptions<'a>) -> Option<Request<'a>>
-    ensures { option_map request_in result ≡ comparison_asked (options_in options.entry) }
+pub fn command(options: GivenOptions<'_>) -> Option<Command<NotationName>>
+    ensures { option_map (command_in (file_given (options_in options.entry))) result
+        ≡ comparison_asked (options_in options.entry) }
 {
     let others = GivenOptions {
         from: None,
@@ -24,25 +26,9 @@ pub fn request<'a>(options: GivenOptions<'a>) -> Option<Request<'a>>
     }
     let from = notation_named(options.from)?;
     let other = notation_named(options.other_notation)?;
-    let sides = sides_of(from, other, options.game)?;
-    let file = file_named(options.other_file)?;
+    let _file = file_named(options.other_file)?;
     let notes = !options.ignores_notes;
-    Some(Request::Compare { sides, file, notes })
-}
-
-// The notations of two files, with the game file for logs.
-fn sides_of<'a>(from: NotationName, other: NotationName, game: Option<&'a str>) -> Option<Sides<'a>>
-    ensures { option_map sides_in result
-        ≡ sides_of_said from other (option_map (λ s. s.now) game.entry) }
-{
-    match (from, other, game) {
-        (NotationName::Plain(from), NotationName::Plain(other), None) => {
-            Some(Sides::Plain { from, other })
-        }
-        (NotationName::Plain(_), NotationName::Plain(_), Some(_)) => None,
-        (from, other, Some(game)) if !game.is_empty() => Some(Sides::Under { game, from, other }),
-        _ => None,
-    }
+    Some(Command::Compare { from, other, notes })
 }
 
 // The name of a file, if one is given and is not empty.

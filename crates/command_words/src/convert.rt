@@ -1,17 +1,18 @@
 //! The words of `convert`: the same hands in another notation.
 ghost use Rattle.std.specs.Prelude.{◌≡◌, option_map};
-ghost use Rattle.command_words.specs.Requests.{options_in, request_in};
-ghost use Rattle.command_words.specs.Convert.{conversion_asked, conversion_of as conversion_of_said, keep_said};
+ghost use Rattle.command_words.specs.Command.{command_in};
+ghost use Rattle.command_words.specs.Requests.{file_given, options_in};
+ghost use Rattle.command_words.specs.Convert.{conversion_asked, keep_said};
 
 use crate::command::Command;
 use crate::given_options::{GivenOptions, are_none};
 use crate::notation::{NotationName, notation_named};
-use crate::request::{Logs, Request};
 use hand_canon::Keep;
 
 /// Converts hands from one notation to another.
-pub fn request<'a>(options: GivenOptions<'a>) -> Option<Request<'a>>
-    ensures { option_map request_in result ≡ conversion_asked (options_in options.entry) }
+pub fn command(options: GivenOptions<'_>) -> Option<Command<NotationName>>
+    ensures { option_map (command_in (file_given (options_in options.entry))) result
+        ≡ conversion_asked (options_in options.entry) }
 {
     let others = GivenOptions {
         from: None,
@@ -25,36 +26,8 @@ pub fn request<'a>(options: GivenOptions<'a>) -> Option<Request<'a>>
     }
     let from = notation_named(options.from)?;
     let to = notation_named(options.to)?;
-    conversion_of(from, to, options.game, keep_of(options.drops_notes))
-}
-
-// Converts one notation to another, with the game file for logs.
-fn conversion_of<'a>(
-    from: NotationName,
-    to: NotationName,
-    game: Option<&'a str>,
-    keep: Keep,
-) -> Option<Request<'a>>
-    ensures { option_map request_in result
-        ≡ conversion_of_said from to (option_map (λ s. s.now) game.entry) keep }
-{
-    match (from, to, game) {
-        (NotationName::Plain(from), NotationName::Plain(to), None) => Some(Request::Plain {
-            from,
-            command: Command::Convert { to, keep },
-        }),
-        (NotationName::Plain(from), NotationName::Acpc, Some(game)) if !game.is_empty() => {
-            Some(Request::Under {
-                game,
-                logs: Logs::Written { from, keep },
-            })
-        }
-        (NotationName::Acpc, to, Some(game)) if !game.is_empty() => Some(Request::Under {
-            game,
-            logs: Logs::Read(Command::Convert { to, keep }),
-        }),
-        _ => None,
-    }
+    let keep = keep_of(options.drops_notes);
+    Some(Command::Convert { from, to, keep })
 }
 
 // Which notes are kept, by the flag.

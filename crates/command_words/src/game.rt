@@ -1,15 +1,17 @@
 //! The words of `game`: the game file that fits the first hand.
 ghost use Rattle.std.specs.Prelude.{◌≡◌, option_map};
-ghost use Rattle.command_words.specs.Requests.{options_in, request_in};
+ghost use Rattle.command_words.specs.Command.{command_in};
+ghost use Rattle.command_words.specs.Requests.{file_given, options_in};
 ghost use Rattle.command_words.specs.Game.{game_asked};
 
 use crate::command::Command;
 use crate::given_options::{GivenOptions, are_none};
-use crate::request::{Request, asked};
+use crate::notation::{NotationName, notation_named};
 
 /// Makes a game file from hands that have none.
-pub fn request<'a>(options: GivenOptions<'a>) -> Option<Request<'a>>
-    ensures { option_map request_in result ≡ game_asked (options_in options.entry) }
+pub fn command(options: GivenOptions<'_>) -> Option<Command<NotationName>>
+    ensures { option_map (command_in (file_given (options_in options.entry))) result
+        ≡ game_asked (options_in options.entry) }
 {
     let others = GivenOptions {
         from: None,
@@ -18,5 +20,6 @@ pub fn request<'a>(options: GivenOptions<'a>) -> Option<Request<'a>>
     if !are_none(others) {
         return None;
     }
-    asked(options, Command::Game)
+    let from = notation_named(options.from)?;
+    Some(Command::Game { from })
 }

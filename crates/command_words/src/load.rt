@@ -1,15 +1,18 @@
 //! The words of `load`: the summary of hands made from a seed.
 ghost use Rattle.std.specs.Prelude.{◌≡◌, option_map};
-ghost use Rattle.command_words.specs.Requests.{options_in, request_in};
+ghost use Rattle.command_words.specs.Command.{command_in};
+ghost use Rattle.command_words.specs.Requests.{file_given, options_in};
 ghost use Rattle.command_words.specs.Load.{load_asked};
 
+use crate::command::Command;
 use crate::given_options::{GivenOptions, are_none};
+use crate::notation::NotationName;
 use crate::numbers::{read_count, read_seed};
-use crate::request::Request;
 
 /// Makes hands from a seed.
-pub fn request<'a>(options: GivenOptions<'a>) -> Option<Request<'a>>
-    ensures { option_map request_in result ≡ load_asked (options_in options.entry) }
+pub fn command(options: GivenOptions<'_>) -> Option<Command<NotationName>>
+    ensures { option_map (command_in (file_given (options_in options.entry))) result
+        ≡ load_asked (options_in options.entry) }
 {
     let others = GivenOptions {
         seed: None,
@@ -21,5 +24,5 @@ pub fn request<'a>(options: GivenOptions<'a>) -> Option<Request<'a>>
     }
     let seed = read_seed(options.seed?)?;
     let hands = read_count(options.hands?)?;
-    Some(Request::Load { seed, hands })
+    Some(Command::Load { seed, hands })
 }

@@ -1,5 +1,6 @@
 //! The notations and their names on the command line.
 ghost use Rattle.std.specs.Prelude.{◌≡◌, option_map};
+ghost use Rattle.command_words.specs.Command.{is_log as is_log_said, plain_of};
 ghost use Rattle.command_words.specs.Notations.{notation_named as notation_named_said, notation_of_name as notation_of_name_said};
 
 /// A notation that needs no game file.
@@ -20,6 +21,28 @@ pub enum NotationName {
     Plain(PlainNotation),
     /// The logs of the Annual Computer Poker Competition, which need a game file.
     Acpc,
+}
+
+impl NotationName {
+    /// Whether it is the notation of logs.
+    pub fn is_log(&self) -> bool
+        ensures { result ≡ is_log_said self.now }
+    {
+        match self {
+            NotationName::Plain(_) => false,
+            NotationName::Acpc => true,
+        }
+    }
+
+    /// The same notation, if it needs no game file.
+    pub fn plain(self) -> Option<PlainNotation>
+        ensures { result ≡ plain_of self }
+    {
+        match self {
+            NotationName::Plain(notation) => Some(notation),
+            NotationName::Acpc => None,
+        }
+    }
 }
 
 /// The notation with this name, if a name is given and known.

@@ -1,17 +1,10 @@
 //! Reads the number of an option: a few decimal digits, in the option's range.
 ghost use Rattle.std.specs.Prelude.{◌≡◌, ◌≤◌, IfSome, option_map};
 ghost use Rattle.command_words.specs.Numbers.{events_said, hand_said, hands_said, no_less as no_less_said, number_said, seat_said, seed_said, street_said};
-ghost use Rattle.first_fault.specs.declared.limits.TheConstants.{MOST_HANDS as most_hands};
 
+use crate::hand_count::HandCount;
 use chip_ledger::Seat;
 use first_fault::{MOST_HANDS, are_digits, read_digits};
-
-/// A number of made hands, at most as many as a file may have.
-#[derive(Clone, Copy, Debug, PartialEq, Eq)]
-pub struct HandCount {
-    pub number: u32,
-    pub ghost few: { number ≤ most_hands },
-}
 
 /// The seed that a text says.
 pub fn read_seed(text: &str) -> Option<u64>

@@ -1,16 +1,18 @@
 //! The words of `options`: the legal moves at a point of a hand, or at every point of it.
-ghost use Rattle.std.specs.Prelude.{◌≡◌, option_map};
-ghost use Rattle.command_words.specs.Requests.{options_in, request_in};
+ghost use Rattle.std.specs.Prelude.{◌≡◌, ℕ, List, option_map};
+ghost use Rattle.command_words.specs.Command.{command_in};
+ghost use Rattle.command_words.specs.Requests.{file_given, options_in};
 ghost use Rattle.command_words.specs.Options.{options_asked, point_asked, points_asked};
 
 use crate::command::{Command, EachQuestion};
 use crate::given_options::{GivenOptions, are_none};
+use crate::notation::{NotationName, notation_named};
 use crate::numbers::{read_events, read_hand};
-use crate::request::{Request, asked, asked_each};
 
 /// The legal moves at one point of a hand, or at every point.
-pub fn request<'a>(options: GivenOptions<'a>) -> Option<Request<'a>>
-    ensures { option_map request_in result ≡ options_asked (options_in options.entry) }
+pub fn command(options: GivenOptions<'_>) -> Option<Command<NotationName>>
+    ensures { option_map (command_in (file_given (options_in options.entry))) result
+        ≡ options_asked (options_in options.entry) }
 {
     let others = GivenOptions {
         from: None,
@@ -23,30 +25,45 @@ pub fn request<'a>(options: GivenOptions<'a>) -> Option<Request<'a>>
     if !are_none(others) {
         return None;
     }
+    let from = notation_named(options.from)?;
     let hand = read_hand(options.hand?)?;
-    points(options, options.after, hand)
+    points(options.asks_each, options.after, from, hand)
 }
 
 // The legal moves of a hand after the number of events that is given, or at every point.
-fn points<'a>(options: GivenOptions<'a>, after: Option<&str>, hand: u32) -> Option<Request<'a>>
-    ensures { option_map request_in result
-        ≡ points_asked (options_in options.entry) (option_map (λ s. s.now) after.entry) hand }
+fn points(
+    each: bool,
+    after: Option<&str>,
+    from: NotationName,
+    hand: u32,
+) -> Option<Command<NotationName>>
+    ensures { (file : List ℕ) → option_map (command_in file) result
+        ≡ points_asked each (option_map (λ s. s.now) after.entry) from hand }
 {
     match after {
-        None => asked_each(options, EachQuestion::EveryPoint { hand }),
+        None => {
+            let question = EachQuestion::EveryPoint { hand };
+            Some(Command::Each { from, question })
+        }
         Some(after) => {
             let events = read_events(after)?;
-            point(options, hand, events)
+            Some(point(each, from, hand, events))
         }
     }
 }
 
 // The legal moves after this number of events of a hand.
-fn point<'a>(options: GivenOptions<'a>, hand: u32, events: u32) -> Option<Request<'a>>
-    ensures { option_map request_in result ≡ point_asked (options_in options.entry) hand events }
+fn point(
+    each: bool,
+    from: NotationName,
+    hand: u32,
+    events: u32,
+) -> Command<NotationName>
+    ensures { (file : List ℕ) → command_in file result ≡ point_asked each from hand events }
 {
-    if options.asks_each {
-        return asked_each(options, EachQuestion::Point { hand, events });
+    if each {
+        let question = EachQuestion::Point { hand, events };
+        return Command::Each { from, question };
     }
-    asked(options, Command::Options { hand, events })
+    Command::Options { from, hand, events }
 }

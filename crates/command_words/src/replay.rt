@@ -1,16 +1,18 @@
 //! The words of `replay`: each hand step by step.
-ghost use Rattle.std.specs.Prelude.{◌≡◌, option_map};
-ghost use Rattle.command_words.specs.Requests.{options_in, request_in};
-ghost use Rattle.command_words.specs.Replay.{replay_asked};
+ghost use Rattle.std.specs.Prelude.{◌≡◌, ℕ, List, option_map};
+ghost use Rattle.command_words.specs.Command.{command_in};
+ghost use Rattle.command_words.specs.Requests.{file_given, options_in};
+ghost use Rattle.command_words.specs.Replay.{replay_asked, replay_of as replay_of_said};
 
 use crate::command::{Command, EachQuestion};
 use crate::given_options::{GivenOptions, are_none};
-use crate::request::{Request, asked, asked_each};
+use crate::notation::{NotationName, notation_named};
 
-/// The request that `replay` makes with these options, which are the notation, the game, and
-/// whether each hand is answered by itself.
-pub fn request<'a>(options: GivenOptions<'a>) -> Option<Request<'a>>
-    ensures { option_map request_in result ≡ replay_asked (options_in options.entry) }
+/// What `replay` asks for with these options, which are the notation, the game, and whether each
+/// hand is answered by itself.
+pub fn command(options: GivenOptions<'_>) -> Option<Command<NotationName>>
+    ensures { option_map (command_in (file_given (options_in options.entry))) result
+        ≡ replay_asked (options_in options.entry) }
 {
     let others = GivenOptions {
         from: None,
@@ -21,8 +23,17 @@ pub fn request<'a>(options: GivenOptions<'a>) -> Option<Request<'a>>
     if !are_none(others) {
         return None;
     }
-    if options.asks_each {
-        return asked_each(options, EachQuestion::Replay);
+    let from = notation_named(options.from)?;
+    Some(replay_of(options.asks_each, from))
+}
+
+// All hands step by step, whether or not others are legal if each is asked for by itself.
+fn replay_of(each: bool, from: NotationName) -> Command<NotationName>
+    ensures { (file : List ℕ) → command_in file result ≡ replay_of_said each from }
+{
+    if each {
+        let question = EachQuestion::Replay;
+        return Command::Each { from, question };
     }
-    asked(options, Command::Replay)
+    Command::Replay { from }
 }

@@ -1,15 +1,19 @@
 //! The words of `report`: hands and pots by game, and chips by name.
 ghost use Rattle.std.specs.Prelude.{◌≡◌, option_map};
-ghost use Rattle.command_words.specs.Requests.{options_in, request_in};
+ghost use Rattle.command_words.specs.Command.{command_in};
+ghost use Rattle.command_words.specs.Requests.{file_given, options_in};
 ghost use Rattle.command_words.specs.Report.{report_asked};
 
 use crate::command::Command;
 use crate::given_options::GivenOptions;
-use crate::request::{Request, asked_alone};
+use crate::notation::NotationName;
+use crate::request::input_alone;
 
-/// The request that `report` makes with these options, which are the notation and the game.
-pub fn request<'a>(options: GivenOptions<'a>) -> Option<Request<'a>>
-    ensures { option_map request_in result ≡ report_asked (options_in options.entry) }
+/// What `report` asks for with these options, which are the notation and the game.
+pub fn command(options: GivenOptions<'_>) -> Option<Command<NotationName>>
+    ensures { option_map (command_in (file_given (options_in options.entry))) result
+        ≡ report_asked (options_in options.entry) }
 {
-    asked_alone(Command::Report, options)
+    let from = input_alone(options)?;
+    Some(Command::Report { from })
 }

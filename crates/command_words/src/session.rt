@@ -1,15 +1,19 @@
 //! The words of `session`: the stacks of each player over the hands.
 ghost use Rattle.std.specs.Prelude.{◌≡◌, option_map};
-ghost use Rattle.command_words.specs.Requests.{options_in, request_in};
+ghost use Rattle.command_words.specs.Command.{command_in};
+ghost use Rattle.command_words.specs.Requests.{file_given, options_in};
 ghost use Rattle.command_words.specs.Session.{session_asked};
 
 use crate::command::Command;
 use crate::given_options::GivenOptions;
-use crate::request::{Request, asked_alone};
+use crate::notation::NotationName;
+use crate::request::input_alone;
 
-/// The request that `session` makes with these options, which are the notation and the game.
-pub fn request<'a>(options: GivenOptions<'a>) -> Option<Request<'a>>
-    ensures { option_map request_in result ≡ session_asked (options_in options.entry) }
+/// What `session` asks for with these options, which are the notation and the game.
+pub fn command(options: GivenOptions<'_>) -> Option<Command<NotationName>>
+    ensures { option_map (command_in (file_given (options_in options.entry))) result
+        ≡ session_asked (options_in options.entry) }
 {
-    asked_alone(Command::Session, options)
+    let from = input_alone(options)?;
+    Some(Command::Session { from })
 }

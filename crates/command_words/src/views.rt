@@ -1,18 +1,19 @@
 //! The words of `views`: the messages that a seat received.
-ghost use Rattle.std.specs.Prelude.{◌≡◌, option_map};
-ghost use Rattle.command_words.specs.Requests.{options_in, request_in};
+ghost use Rattle.std.specs.Prelude.{◌≡◌, ℕ, List, option_map};
+ghost use Rattle.command_words.specs.Command.{command_in};
+ghost use Rattle.command_words.specs.Requests.{file_given, options_in};
 ghost use Rattle.command_words.specs.Views.{views_asked, views_of as views_of_said};
 
 use crate::command::Command;
 use crate::given_options::{GivenOptions, are_none};
 use crate::notation::{NotationName, notation_named};
 use crate::numbers::read_seat;
-use crate::request::{Logs, Request};
 use chip_ledger::Seat;
 
 /// What a seat saw; for logs only.
-pub fn request<'a>(options: GivenOptions<'a>) -> Option<Request<'a>>
-    ensures { option_map request_in result ≡ views_asked (options_in options.entry) }
+pub fn command(options: GivenOptions<'_>) -> Option<Command<NotationName>>
+    ensures { option_map (command_in (file_given (options_in options.entry))) result
+        ≡ views_asked (options_in options.entry) }
 {
     let others = GivenOptions {
         from: None,
@@ -25,19 +26,15 @@ pub fn request<'a>(options: GivenOptions<'a>) -> Option<Request<'a>>
     }
     let from = notation_named(options.from)?;
     let seat = read_seat(options.seat?)?;
-    views_of(from, options.game, seat)
+    views_of(from, seat)
 }
 
-// What a seat saw of the hands of logs, with the game file.
-fn views_of<'a>(from: NotationName, game: Option<&'a str>, seat: Seat) -> Option<Request<'a>>
-    ensures { option_map request_in result
-        ≡ views_of_said from (option_map (λ s. s.now) game.entry) seat }
+// What a seat saw of the hands of logs.
+fn views_of(from: NotationName, seat: Seat) -> Option<Command<NotationName>>
+    ensures { (file : List ℕ) → option_map (command_in file) result ≡ views_of_said from seat }
 {
-    match (from, game) {
-        (NotationName::Acpc, Some(game)) if !game.is_empty() => Some(Request::Under {
-            game,
-            logs: Logs::Read(Command::Views { seat }),
-        }),
-        _ => None,
+    match from {
+        NotationName::Acpc => Some(Command::Views { from, seat }),
+        NotationName::Plain(_) => None,
     }
 }

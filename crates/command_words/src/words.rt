@@ -1,10 +1,13 @@
 //! The list of commands: each by its word.
 ghost use Rattle.std.specs.Prelude.{◌≡◌, option_map};
-ghost use Rattle.command_words.specs.Requests.{options_in, request_in};
-ghost use Rattle.command_words.specs.Words.{request_by};
+ghost use Rattle.command_words.specs.Command.{command_in};
+ghost use Rattle.command_words.specs.Requests.{file_given, options_in, request_in};
+ghost use Rattle.command_words.specs.Words.{command_by, request_by};
 
+use crate::command::Command;
 use crate::given_options::GivenOptions;
-use crate::request::Request;
+use crate::notation::NotationName;
+use crate::request::{Request, under_game};
 use crate::{
     check, compare, convert, equity, game, judge, load, options, replay, report, session, views,
 };
@@ -13,19 +16,28 @@ use crate::{
 pub fn request_of<'a>(word: &str, given: GivenOptions<'a>) -> Option<Request<'a>>
     ensures { option_map request_in result ≡ request_by word.now (options_in given.entry) }
 {
+    let command = command_of(word, given)?;
+    under_game(given.game, given.other_file, command)
+}
+
+// The command of this word with these options, without the game file.
+fn command_of(word: &str, given: GivenOptions<'_>) -> Option<Command<NotationName>>
+    ensures { option_map (command_in (file_given (options_in given.entry))) result
+        ≡ command_by word.now (options_in given.entry) }
+{
     match word {
-        "check" => check::request(given),
-        "replay" => replay::request(given),
-        "report" => report::request(given),
-        "convert" => convert::request(given),
-        "game" => game::request(given),
-        "load" => load::request(given),
-        "views" => views::request(given),
-        "options" => options::request(given),
-        "session" => session::request(given),
-        "equity" => equity::request(given),
-        "judge" => judge::request(given),
-        "compare" => compare::request(given),
+        "check" => check::command(given),
+        "replay" => replay::command(given),
+        "report" => report::command(given),
+        "convert" => convert::command(given),
+        "game" => game::command(given),
+        "load" => load::command(given),
+        "views" => views::command(given),
+        "options" => options::command(given),
+        "session" => session::command(given),
+        "equity" => equity::command(given),
+        "judge" => judge::command(given),
+        "compare" => compare::command(given),
         _ => None,
     }
 }

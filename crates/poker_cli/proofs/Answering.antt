@@ -1,15 +1,15 @@
 -- The answer to what a source has left, if the source shows it, and how a run ends with this
 -- answer.
-use Rattle.std.proofs.Common.{◌≡◌, ◌⊎◌, ◌∙◌, ℕ, ◌<◌, suc, Bool, true, false, if◌then◌else◌, List, [], length, Option, Some, None, IfErr, IfOk, IfSome, Result, Ok, Err, Global, ap, refl, string_bytes, subst, sym, inl, inr, arith}
+use Rattle.std.proofs.Common.{◌≡◌, ◌⊎◌, ◌∙◌, ℕ, ◌<◌, suc, Bool, true, false, if◌then◌else◌, List, [], length, Option, Some, None, is_some, IfErr, IfOk, IfSome, Result, Ok, Err, Global, ap, refl, string_bytes, subst, sym, inl, inr, arith}
 use Rattle.std.specs.declared.string.String.{String}
 use Rattle.std.proofs.Math.ListN.{replicate}
 use Rattle.std.proofs.lemmas.List.{length-replicate}
 use Rattle.std.proofs.lemmas.Option.{same_Some}
 use Rattle.acpc_game.specs.declared.game.Game.{Game}
 use Rattle.card_set.specs.Refusal.{WasRefused}
-use Rattle.command_words.specs.Words.{Load, Plain, Request, Under, Compare}
-use Rattle.command_words.specs.declared.request.Logs.{Logs}
-use Rattle.command_words.specs.declared.command.Command.{Command}
+use Rattle.command_words.specs.Command as commands
+use Rattle.command_words.specs.Command.{Command, input_of, reads_input}
+use Rattle.command_words.specs.Words.{Request}
 use Rattle.command_words.specs.declared.command.EachQuestion.{EachQuestion}
 use Rattle.convert_core.specs.Conversion.{IsConversion as IsConverting, IsConverted, IsPlaysRefusal, IsReadFault, ReadAsRefused}
 use Rattle.convert_core.specs.Faults.{excess_of, is_out_of_memory}
@@ -23,12 +23,12 @@ use Rattle.convert_core.specs.declared.format_fault.FormatFault.{FormatFault}
 use Rattle.hand_canon.specs.declared.record.Record.{Record}
 use Rattle.hand_canon.specs.declared.trace.Play.{Play}
 use Rattle.hand_canon.specs.declared.writing.Unspelled.{Unspelled}
-use Rattle.poker_cli.specs.Answer.{IsAnswer, IsAnswerBy, IsAnswerIn, IsAnswerUnder}
+use Rattle.poker_cli.specs.Answer.{IsAnswer, IsAnswerBy, IsAnswerIn}
 use Rattle.poker_cli.specs.AnswerParts.{Answer, IsAnswerTo, done, most_input, to_excess, to_fault, to_refusal, to_unread}
 use Rattle.poker_cli.specs.Convert.{IsWritten}
 use Rattle.poker_cli.specs.Each.{IsAnswerOfEach}
 use Rattle.poker_cli.specs.Files.{Files, FilesByName}
-use Rattle.poker_cli.specs.GameFiles.{GivesGame, GivesNoGame, IsGameFileErrorAnswer, Lacks}
+use Rattle.poker_cli.specs.GameFiles.{GivesNoGame, IsGameFileErrorAnswer, Lacks}
 use Rattle.poker_cli.specs.Judge.{IsJudgement}
 use Rattle.poker_cli.specs.Answer as answers
 use Rattle.poker_cli.specs.AnswerParts as parts
@@ -42,18 +42,17 @@ use Rattle.poker_cli.specs.declared.answer.Answer as made
 use Rattle.poker_cli.specs.declared.no_answer.NoAnswerError.{NoAnswerError}
 use Rattle.poker_cli.specs.declared.game_files.GameFileError.{GameFileError}
 use Rattle.poker_cli.specs.declared.game_files.GameFileError.TheVariants as lacks
-use Rattle.poker_cli.specs.Run.{AsksForFile, Ends, EndsLeaving, IsFileMissing, IsGameMissing, IsOwn, IsWithoutFile, MayEnd, OfBytes, OfFile, ReadsHands, Sinks, PrintsLine, Writes, WhereShown, line_of}
+use Rattle.poker_cli.specs.Run.{AsksForFile, Ends, EndsLeaving, IsFileMissing, IsGameMissing, IsOwn, IsWithoutFile, MayEnd, Needs, OfBytes, OfNamed, ReadsHands, Sinks, PrintsLine, Writes, WhereNeeded, WhereShown, line_of, needs_of}
 use Rattle.poker_cli.specs.declared.status.Status.{Status}
 use Rattle.poker_cli.specs.declared.status.Status.TheVariants as statuses
 use Rattle.convert_core.specs.declared.format.Format.{Format}
-use Rattle.poker_cli.specs.Ways.{job_under}
-use Rattle.poker_cli.proofs.FilesTold.{any_file, any_game_file, game_alone, of_file, of_game_file, two_files}
+use Rattle.poker_cli.proofs.FilesTold.{any_named, of_named, two_files}
 
 -- the bytes that were read are those that the source had left
-pub answer_within : (command : Command Format) (reader : Format) (left : Option (List ℕ)) (bytes : List ℕ) (answer : Answer)
-    → IfSome left (λ l. bytes ≡ l) → IsAnswer command reader bytes answer → OfBytes left (λ l. IsAnswer command reader l answer)
-answer_within command reader (Some left) bytes answer all is = subst (λ (l : List ℕ). IsAnswer command reader l answer) all is
-answer_within command reader None bytes answer all is = (bytes, is)
+pub answer_within : (command : Command Format) (left : Option (List ℕ)) (bytes : List ℕ) (answer : Answer)
+    → IfSome left (λ l. bytes ≡ l) → IsAnswer command bytes answer → OfBytes left (λ l. IsAnswer command l answer)
+answer_within command (Some left) bytes answer all is = subst (λ (l : List ℕ). IsAnswer command l answer) all is
+answer_within command None bytes answer all is = (bytes, is)
 
 -- a source that shows that it has more bytes than the limit, or does not show its bytes
 pub beyond : (n : ℕ) (left : Option (List ℕ)) (P : List ℕ → Type 0) → IfSome left (λ l. n < length l)
@@ -61,11 +60,21 @@ pub beyond : (n : ℕ) (left : Option (List ℕ)) (P : List ℕ → Type 0) → 
 beyond n (Some left) P many each = each left many
 beyond n None P many each = let long : List ℕ = replicate (suc n) 0 in (long, each long (omega (arith, length-replicate {A = ℕ} (suc n) 0)))
 
+-- a command that reads an input has its notation
+input_given : (command : Command Format) → reads_input command ≡ true → is_some (input_of command) ≡ true
+input_given (commands.Load seed hands) reads = cc (reads)
+input_given command reads = refl
+
 -- more bytes than the limit
-pub answer_beyond : (command : Command Format) (reader : Format) (left : Option (List ℕ)) (answer : Answer)
-    → IfSome left (λ l. most_input < length l) → answer ≡ to_excess → OfBytes left (λ l. IsAnswer command reader l answer)
-answer_beyond command reader left answer many is =
-    beyond most_input left _ many (λ bytes more. subst (λ (a : Answer). IsAnswer command reader bytes a) (sym is) (answers.TooLong more))
+too_long : (input : Option Format) (command : Command Format) (bytes : List ℕ) → is_some input ≡ true → most_input < length bytes
+    → IsAnswerBy input command bytes to_excess
+too_long (Some reader) command bytes given more = answers.TooLong more
+too_long None command bytes given more = cc (given)
+
+pub answer_beyond : (command : Command Format) (left : Option (List ℕ)) (answer : Answer) → reads_input command ≡ true
+    → IfSome left (λ l. most_input < length l) → answer ≡ to_excess → OfBytes left (λ l. IsAnswer command l answer)
+answer_beyond command left answer reads many is =
+    beyond most_input left _ many (λ bytes more. subst (λ (a : Answer). IsAnswer command bytes a) (sym is) (too_long (input_of command) command bytes (input_given command reads) more))
 
 -- an answer that is given unless memory ran out
 pub given_unless : (out : Bool) (made answer : Answer) → (if out then None else Some made) ≡ Some answer → (out ≡ false) × (made ≡ answer)
@@ -196,32 +205,31 @@ of_all (Some bytes) P each = each bytes
 of_all None P each = ([], each [])
 
 -- what follows for files and bytes, whether they are displayed or not
-pub where_told : (request : Request) (left : Option (List ℕ)) (shown : Option FilesByName) (P Q : Files → List ℕ → Type 0)
-    → ((files : Files) (bytes : List ℕ) → P files bytes → Q files bytes) → WhereShown request left shown P → WhereShown request left shown Q
-where_told (Load seed hands) left shown P Q more is = more _ _ is
-where_told (Plain from command) left shown P Q more is = bytes_told left _ _ (more _) is
-where_told (Under name logs) left shown P Q more is =
-    of_file shown name (λ game. OfBytes left (P (game_alone game))) (λ game. OfBytes left (Q (game_alone game)))
-    (λ game. bytes_told left (P (game_alone game)) (Q (game_alone game)) (more (game_alone game))) is
-where_told (Compare sides name notes) left shown P Q more is =
-    of_game_file shown sides (λ game. OfFile shown name (λ other. OfBytes left (P (two_files game other))))
-    (λ game. OfFile shown name (λ other. OfBytes left (Q (two_files game other))))
+pub needed_told : (needs : Needs) (left : Option (List ℕ)) (shown : Option FilesByName) (P Q : Files → List ℕ → Type 0)
+    → ((files : Files) (bytes : List ℕ) → P files bytes → Q files bytes) → WhereNeeded needs left shown P → WhereNeeded needs left shown Q
+needed_told needs left shown P Q more is =
+    of_named shown needs.game (λ game. OfNamed shown needs.other (λ other. OfBytes left (P (two_files game other))))
+    (λ game. OfNamed shown needs.other (λ other. OfBytes left (Q (two_files game other))))
     (λ game.
-    of_file shown name (λ other. OfBytes left (P (two_files game other))) (λ other. OfBytes left (Q (two_files game other)))
+    of_named shown needs.other (λ other. OfBytes left (P (two_files game other))) (λ other. OfBytes left (Q (two_files game other)))
     (λ other. bytes_told left (P (two_files game other)) (Q (two_files game other)) (more (two_files game other)))) is
 
+pub where_told : (request : Request) (left : Option (List ℕ)) (shown : Option FilesByName) (P Q : Files → List ℕ → Type 0)
+    → ((files : Files) (bytes : List ℕ) → P files bytes → Q files bytes) → WhereShown request left shown P → WhereShown request left shown Q
+where_told request left shown P Q more is = needed_told (needs_of request) left shown P Q more is
+
 -- what holds of all files and bytes
+pub always_needed : (needs : Needs) (left : Option (List ℕ)) (shown : Option FilesByName) (P : Files → List ℕ → Type 0)
+    → ((files : Files) (bytes : List ℕ) → P files bytes) → WhereNeeded needs left shown P
+always_needed needs left shown P each =
+    any_named shown needs.game (λ game. OfNamed shown needs.other (λ other. OfBytes left (P (two_files game other))))
+    (λ game.
+    any_named shown needs.other (λ other. OfBytes left (P (two_files game other)))
+    (λ other. of_all left (P (two_files game other)) (each (two_files game other))))
+
 pub always_told : (request : Request) (left : Option (List ℕ)) (shown : Option FilesByName) (P : Files → List ℕ → Type 0)
     → ((files : Files) (bytes : List ℕ) → P files bytes) → WhereShown request left shown P
-always_told (Load seed hands) left shown P each = each _ _
-always_told (Plain from command) left shown P each = of_all left _ (each _)
-always_told (Under name logs) left shown P each =
-    any_file shown name (λ game. OfBytes left (P (game_alone game))) (λ game. of_all left (P (game_alone game)) (each (game_alone game)))
-always_told (Compare sides name notes) left shown P each =
-    any_game_file shown sides (λ game. OfFile shown name (λ other. OfBytes left (P (two_files game other))))
-    (λ game.
-    any_file shown name (λ other. OfBytes left (P (two_files game other)))
-    (λ other. of_all left (P (two_files game other)) (each (two_files game other))))
+always_told request left shown P each = always_needed (needs_of request) left shown P each
 
 -- if the answer is done and has no output, the sink stays the same
 leaves_with : (request : Request) (files : Files) (bytes : List ℕ) (out diag : Sinks) (answer : Answer) (status : Status) (Same : Type 0)
@@ -314,29 +322,11 @@ told_alone answer statuses.ShelfFault held same own undone = absurd own
 told_alone answer statuses.GameMissing held same own undone = absurd own
 told_alone answer statuses.FileMissing held same own undone = absurd own
 
--- if logs are under a game, the answer is that under the game in its file
-pub game_reply : (shown : Option FilesByName) (left : Option (List ℕ)) (name : List ℕ) (logs : Logs) (game : Game) (result : Result made.Answer NoAnswerError)
-    → OfFile shown name (λ file. GivesGame file game)
-    → IfOk result (λ answer. OfBytes left (λ bytes. IsAnswerBy (job_under game logs) bytes (answer_said answer)))
-    → IfOk result (λ answer. OfFile shown name (λ file. OfBytes left (λ bytes. IsAnswerUnder file logs bytes (answer_said answer))))
-game_reply shown left name logs game (Ok answer) gives is =
-    of_file shown name (λ file. GivesGame file game) (λ file. OfBytes left (λ bytes. IsAnswerUnder file logs bytes (answer_said answer)))
-    (λ file given.
-    bytes_told left _ (λ bytes. IsAnswerUnder file logs bytes (answer_said answer)) (λ bytes to. answers.OfInput game given (answer_said answer) to) is) gives
-game_reply shown left name logs game (Err why) gives is = tt
-
--- or it reports what is wrong with the file
+-- the answer reports what is wrong with a game file
 pub no_game : (file : Option (List ℕ)) (lack : GameFileError) (answer : Answer) → Lacks file lack → IsGameFileErrorAnswer lack answer → GivesNoGame file answer
 no_game file lacks.TooLong answer is shown = subst (λ (a : Answer). GivesNoGame file a) (sym shown) (game_files.FileTooLong is.0 is.1.0 is.1.1)
 no_game file (lacks.Bad fault) answer is shown =
     subst (λ (a : Answer). GivesNoGame file a) (sym shown) (game_files.BadGame is.0 is.1.0 is.1.1.0 fault is.1.1.1)
-
-pub game_file_error_reply : (shown : Option FilesByName) (left : Option (List ℕ)) (name : List ℕ) (logs : Logs) (lack : GameFileError) (answer : Answer)
-    → OfFile shown name (λ file. Lacks file lack) → IsGameFileErrorAnswer lack answer
-    → OfFile shown name (λ file. OfBytes left (λ bytes. IsAnswerUnder file logs bytes answer))
-game_file_error_reply shown left name logs lack answer is tells =
-    of_file shown name (λ file. Lacks file lack) (λ file. OfBytes left (λ bytes. IsAnswerUnder file logs bytes answer))
-    (λ file lacking. of_all left (λ bytes. IsAnswerUnder file logs bytes answer) (λ bytes. answers.NoGameError answer (no_game file lack answer lacking tells))) is
 
 -- running out of memory says nothing about files and bytes, and leaves the input as it was
 pub ends_unread : (said : Option Request) (left : Option (List ℕ)) (shown : Option FilesByName) (out diag : Sinks) (Same : Type 0) → WasRefused

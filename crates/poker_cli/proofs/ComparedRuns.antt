@@ -6,6 +6,7 @@ use Rattle.std.specs.Option.{option_map, option_or}
 use Rattle.std.specs.Io.KnownBytes.{Appends}
 use Rattle.std.proofs.lemmas.Bool.{eq-eqb, false≢true}
 use Rattle.std.proofs.lemmas.Option.{same_Some}
+use Rattle.command_words.specs.Command as commands
 use Rattle.command_words.specs.Words.{Request}
 use Rattle.convert_core.specs.FormatLaws.{lawful_of}
 use Rattle.convert_core.specs.Conversion.{ReadAsPlays}
@@ -15,19 +16,22 @@ use Rattle.hand_differences.proofs.SameHands.{made_none, neither, same_traces, s
 use Rattle.hand_differences.specs.FirstDifference.{PlainDifference, first_difference}
 use Rattle.hand_canon.specs.SameHands.{AllPaired}
 use Rattle.hand_canon.specs.declared.trace.Play.{Play}
-use Rattle.poker_cli.specs.Answer.{IsAnswerIn}
+use Rattle.poker_cli.specs.Answer as answers
+use Rattle.poker_cli.specs.Answer.{IsAnswer, IsAnswerIn}
+use Rattle.poker_cli.specs.Asked.{IsAsked}
 use Rattle.poker_cli.specs.AnswerParts.{Answer, most_input}
 use Rattle.poker_cli.specs.Files.{Files}
 use Rattle.poker_cli.specs.AnswerParts as parts_said
 use Rattle.poker_cli.specs.Compare as in_compare
-use Rattle.poker_cli.specs.Compare.{AsksToCompare, DifferentHand, IsComparedWith, IsComparison, compared, compared_by, first_different, to_other_count, to_same}
+use Rattle.poker_cli.specs.Compare.{DifferentHand, IsComparedWith, compared, compared_by, first_different, to_other_count, to_same}
 use Rattle.poker_cli.specs.ComparedRuns.{AreFoundOther, AreFoundSame, AreOther, AreSame, BothRead, FindsOther, InCount, InHand, IsFirstDifferent, IsSameHand}
 use Rattle.convert_core.specs.Formats.{SayRecords}
 use Rattle.poker_cli.specs.Run.{Ends, RefusesNothing, Sinks}
-use Rattle.poker_cli.specs.declared.compare.Comparison.{Comparison}
+use Rattle.convert_core.specs.declared.format.Format.{Format}
 use Rattle.poker_cli.specs.declared.status.Status.{Status}
 use Rattle.poker_cli.specs.declared.status.Status.TheVariants as statuses
-use Rattle.poker_cli.proofs.Comparisons.{by_request, compared_as, compared_legal, legal_compares}
+use Rattle.poker_cli.proofs.Comparisons.{compared_as, compared_legal, legal_compares}
+use Rattle.poker_cli.proofs.OneAnswer.{as_asked}
 use Rattle.poker_cli.proofs.Headline.{IsUnread, not_unread}
 
 -- two sound plays have no difference if and only if they are the same hand
@@ -175,93 +179,95 @@ other_told notes plays others sound too is = go (first_different notes 0 plays o
 -- ---- runs
 
 -- both files read as legal hands, and the answer is that to their plays
-record IsToldOfBoth (by : Comparison) (text bytes : List ℕ) (answer : Answer) : Type 0 where
+record IsToldOfBoth (from other : Format) (notes : Bool) (text bytes : List ℕ) (answer : Answer) : Type 0 where
   plays : List Play
   others : List Play
-  both : BothRead by text bytes plays others
-  is : answer ≡ compared by.notes plays others
+  both : BothRead from other text bytes plays others
+  is : answer ≡ compared notes plays others
 
 -- for an answer with this status, which is not that of a file that cannot be read as legal hands
-module _ (by : Comparison) (text bytes : List ℕ) (status : Status) (read : IsUnread status → ⊥) (legal : statuses.Refused ≡ status → ⊥) where
-  told_with : (plays : List Play) (answer : Answer) → length bytes ≤ most_input → ReadAsPlays (SayRecords by.from bytes) plays
-      → IsComparedWith by.other by.notes text plays answer → answer.status ≡ status → IsToldOfBoth by text bytes answer
+module _ (from other : Format) (notes : Bool) (text bytes : List ℕ) (status : Status) (read : IsUnread status → ⊥) (legal : statuses.Refused ≡ status → ⊥) where
+  told_with : (plays : List Play) (answer : Answer) → length bytes ≤ most_input → ReadAsPlays (SayRecords from bytes) plays
+      → IsComparedWith other notes text plays answer → answer.status ≡ status → IsToldOfBoth from other notes text bytes answer
   told_with plays _ few is (in_compare.OtherUnread fault have answer shown) same = absurd (not_unread fault answer status read shown same)
   told_with plays _ few is (in_compare.OtherRefused number why first) same = absurd (legal same)
   told_with plays _ few is (in_compare.OtherPlayed others reads) same =
-      record { plays = plays; others = others; both = record { within = few; read = is; other = reads }; is = refl }
+      record { plays = plays; others = others; both = record { within = few; read = is; reads = reads }; is = refl }
 
-  told_of_both : (answer : Answer) → IsComparison by text bytes answer → answer.status ≡ status → IsToldOfBoth by text bytes answer
+  told_of_both : (answer : Answer) → IsAnswer (commands.Compare from other text notes) bytes answer → answer.status ≡ status → IsToldOfBoth from other notes text bytes answer
   unfolding IsUnread
-  told_of_both _ (in_compare.InputTooLong many) same = absurd (read (subst IsUnread same tt))
-  told_of_both answer (in_compare.InputRead few _ (parts_said.Unread fault have _ shown)) same = absurd (not_unread fault answer status read shown same)
-  told_of_both _ (in_compare.InputRead few _ (parts_said.Refused number why first)) same = absurd (legal same)
-  told_of_both answer (in_compare.InputRead few _ (parts_said.Played plays is _ made)) same = told_with plays answer few is made same
+  told_of_both _ (answers.TooLong many) same = absurd (read (subst IsUnread same tt))
+  told_of_both answer (answers.Read few _ (parts_said.Unread fault have _ shown)) same = absurd (not_unread fault answer status read shown same)
+  told_of_both _ (answers.Read few _ (parts_said.Refused number why first)) same = absurd (legal same)
+  told_of_both answer (answers.Read few _ (parts_said.Played plays is _ made)) same = told_with plays answer few is made same
 
-module _ (by : Comparison) (text bytes : List ℕ) (plays others : List Play) (both : BothRead by text bytes plays others) where
+module _ (from other : Format) (notes : Bool) (text bytes : List ℕ) (plays others : List Play) (both : BothRead from other text bytes plays others) where
   plays_sound : AllByRecursion IsSound plays
-  plays_sound = read_sound (lawful_of by.from) bytes plays both.read
+  plays_sound = read_sound (lawful_of from) bytes plays both.read
 
   others_sound : AllByRecursion IsSound others
-  others_sound = read_sound (lawful_of by.other) text others both.other
+  others_sound = read_sound (lawful_of other) text others both.reads
 
   -- they are the same if and only if the answer is done
-  done_of_both : ((compared by.notes plays others).status ≡ statuses.Done) ↔ AreSame by.notes plays others
-  done_of_both = same_told by.notes plays others plays_sound others_sound
+  done_of_both : ((compared notes plays others).status ≡ statuses.Done) ↔ AreSame notes plays others
+  done_of_both = same_told notes plays others plays_sound others_sound
 
-module _ (request : Request) (by : Comparison) (files : Files) (text bytes : List ℕ) (out diag : Sinks) (asks : AsksToCompare files request by text) where
-  pub found_same : Ends request files bytes out diag statuses.Done → AreFoundSame by text bytes out
+module _ (request : Request) (from other : Format) (notes : Bool) (files : Files) (text bytes : List ℕ) (out diag : Sinks)
+    (asks : IsAsked files request (commands.Compare from other text notes)) where
+  pub found_same : Ends request files bytes out diag statuses.Done → AreFoundSame from other notes text bytes out
   unfolding IsUnread
   found_same ends =
-      let shown = told_of_both by text bytes statuses.Done (λ un. un) (λ same. cc (same)) ends.answer
-      (by_request request files by text bytes ends.answer asks ends.to_input) ends.ends in
-      let done : (compared by.notes shown.plays shown.others).status ≡ statuses.Done = sym (ap (λ (a : Answer). a.status) shown.is) ∙ ends.ends in
+      let shown = told_of_both from other notes text bytes statuses.Done (λ un. un) (λ same. cc (same)) ends.answer
+      (as_asked request files bytes (commands.Compare from other text notes) ends.answer asks ends.to_input) ends.ends in
+      let done : (compared notes shown.plays shown.others).status ≡ statuses.Done = sym (ap (λ (a : Answer). a.status) shown.is) ∙ ends.ends in
       record {
         plays = shown.plays;
         others = shown.others;
         both = shown.both;
-        same = (done_of_both by text bytes shown.plays shown.others shown.both).0 done;
+        same = (done_of_both from other notes text bytes shown.plays shown.others shown.both).0 done;
         written =
             subst (λ (a : Answer). Appends out.held out.holds a.output)
-            (shown.is ∙ done_told (first_different by.notes 0 shown.plays shown.others) (length shown.plays) (length shown.others) done) ends.written;
+            (shown.is ∙ done_told (first_different notes 0 shown.plays shown.others) (length shown.plays) (length shown.others) done) ends.written;
       }
 
-  pub found_other : Ends request files bytes out diag statuses.Differs → AreFoundOther by text bytes diag
+  pub found_other : Ends request files bytes out diag statuses.Differs → AreFoundOther from other notes text bytes diag
   unfolding IsUnread
   found_other ends =
-      let shown = told_of_both by text bytes statuses.Differs (λ un. un) (λ same. cc (same)) ends.answer
-      (by_request request files by text bytes ends.answer asks ends.to_input) ends.ends in
+      let shown = told_of_both from other notes text bytes statuses.Differs (λ un. un) (λ same. cc (same)) ends.answer
+      (as_asked request files bytes (commands.Compare from other text notes) ends.answer asks ends.to_input) ends.ends in
       record {
         plays = shown.plays;
         others = shown.others;
         both = shown.both;
         answer = ends.answer;
         differ =
-            subst (AreOther by.notes shown.plays shown.others) (sym shown.is)
-            (other_told by.notes shown.plays shown.others (plays_sound by text bytes shown.plays shown.others shown.both) (others_sound by text bytes shown.plays shown.others shown.both)
+            subst (AreOther notes shown.plays shown.others) (sym shown.is)
+            (other_told notes shown.plays shown.others (plays_sound from other notes text bytes shown.plays shown.others shown.both) (others_sound from other notes text bytes shown.plays shown.others shown.both)
             (sym (ap (λ (a : Answer). a.status) shown.is) ∙ ends.ends));
         shown = ends.line;
       }
 
-module _ (request : Request) (by : Comparison) (files : Files) (text bytes : List ℕ) (plays others : List Play) (out diag : Sinks) (status : Status)
-    (asks : AsksToCompare files request by text) (both : BothRead by text bytes plays others) where
+module _ (request : Request) (from with_notation : Format) (notes : Bool) (files : Files) (text bytes : List ℕ) (plays others : List Play) (out diag : Sinks) (status : Status)
+    (asks : IsAsked files request (commands.Compare from with_notation text notes)) (both : BothRead from with_notation text bytes plays others) where
   -- a run ends with the answer to the plays, or a device failed, or memory ran out
-  told_or_not : Ends request files bytes out diag status → RefusesNothing status ⊎ ((compared by.notes plays others).status ≡ status)
-  told_or_not ends = legal_compares request by files text bytes plays others out diag status asks both.within both.read both.other ends
+  told_or_not : Ends request files bytes out diag status → RefusesNothing status ⊎ ((compared notes plays others).status ≡ status)
+  told_or_not ends = legal_compares request from with_notation notes files text bytes plays others out diag status asks both ends
 
-  pub same_done : AreSame by.notes plays others → Ends request files bytes out diag status → RefusesNothing status
+  pub same_done : AreSame notes plays others → Ends request files bytes out diag status → RefusesNothing status
   same_done same ends = go (told_or_not ends)
     where
-      go : RefusesNothing status ⊎ ((compared by.notes plays others).status ≡ status) → RefusesNothing status
+      go : RefusesNothing status ⊎ ((compared notes plays others).status ≡ status) → RefusesNothing status
       go (inl is) = is
-      go (inr is) = subst RefusesNothing (sym ((done_of_both by text bytes plays others both).1 same) ∙ is) tt
+      go (inr is) = subst RefusesNothing (sym ((done_of_both from with_notation notes text bytes plays others both).1 same) ∙ is) tt
 
   -- if they are not the same, no answer is done
-  never_done : (AreSame by.notes plays others → ⊥) → (answer : Answer) → IsAnswerIn request files bytes answer → answer.status ≡ statuses.Done → ⊥
+  never_done : (AreSame notes plays others → ⊥) → (answer : Answer) → IsAnswerIn request files bytes answer → answer.status ≡ statuses.Done → ⊥
   never_done other answer is done =
-      let so = compared_legal by text bytes plays others answer both.within both.read both.other (by_request request files by text bytes answer asks is) in
-      other ((done_of_both by text bytes plays others both).0 (sym (ap (λ (a : Answer). a.status) so) ∙ done))
+      let so = compared_legal from with_notation notes text bytes plays others answer both.within both.read both.reads
+      (as_asked request files bytes (commands.Compare from with_notation text notes) answer asks is) in
+      other ((done_of_both from with_notation notes text bytes plays others both).0 (sym (ap (λ (a : Answer). a.status) so) ∙ done))
 
-  fault_or_not : (AreSame by.notes plays others → ⊥) → (status : Status) → Ends request files bytes out diag status → RefusesNothing status → FindsOther status
+  fault_or_not : (AreSame notes plays others → ⊥) → (status : Status) → Ends request files bytes out diag status → RefusesNothing status → FindsOther status
   fault_or_not other statuses.Done ends is = absurd (never_done other ends.answer ends.to_input ends.ends)
   fault_or_not other statuses.WriteFault ends is = absurd (never_done other ends.answer ends.to_input ends.ends.0)
   fault_or_not other statuses.ReadFault ends is = tt
@@ -269,14 +275,14 @@ module _ (request : Request) (by : Comparison) (files : Files) (text bytes : Lis
   fault_or_not other statuses.Memory ends is = is
   fault_or_not other status ends is = absurd is
 
-  pub other_differs : (AreSame by.notes plays others → ⊥) → Ends request files bytes out diag status → FindsOther status
+  pub other_differs : (AreSame notes plays others → ⊥) → Ends request files bytes out diag status → FindsOther status
   other_differs other ends = go (told_or_not ends)
     where
-      shown : ((compared by.notes plays others).status ≡ status) → ((compared by.notes plays others).status ≡ statuses.Done)
-          ⊎ ((compared by.notes plays others).status ≡ statuses.Differs) → FindsOther status
-      shown is (inl done) = absurd (other ((done_of_both by text bytes plays others both).0 done))
+      shown : ((compared notes plays others).status ≡ status) → ((compared notes plays others).status ≡ statuses.Done)
+          ⊎ ((compared notes plays others).status ≡ statuses.Differs) → FindsOther status
+      shown is (inl done) = absurd (other ((done_of_both from with_notation notes text bytes plays others both).0 done))
       shown is (inr differs) = subst FindsOther (sym differs ∙ is) tt
 
-      go : RefusesNothing status ⊎ ((compared by.notes plays others).status ≡ status) → FindsOther status
+      go : RefusesNothing status ⊎ ((compared notes plays others).status ≡ status) → FindsOther status
       go (inl is) = fault_or_not other status ends is
-      go (inr is) = shown is (done_or_differs (first_different by.notes 0 plays others) (length plays) (length others))
+      go (inr is) = shown is (done_or_differs (first_different notes 0 plays others) (length plays) (length others))

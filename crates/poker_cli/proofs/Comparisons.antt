@@ -6,8 +6,8 @@ use Rattle.std.specs.List.{AllByRecursion}
 use Rattle.std.specs.Option.{option_map, option_or}
 use Rattle.std.proofs.lemmas.Bool.{eq-eqb, eqb-true}
 use Rattle.std.proofs.lemmas.Option.{same_Some}
-use Rattle.acpc_game.specs.declared.game.Game.{Game as AnyGame}
-use Rattle.command_words.specs.Words.{Load, Plain, Request, Under, Compare, PlainSides, SidesUnder}
+use Rattle.command_words.specs.Command as commands
+use Rattle.command_words.specs.Words.{Request}
 use Rattle.convert_core.specs.FormatLaws.{lawful_of}
 use Rattle.convert_core.specs.Conversion.{ReadAsPlays}
 use Rattle.convert_core.specs.declared.refusal.Refusal.{Refusal}
@@ -27,99 +27,25 @@ use Rattle.hand_canon.specs.declared.trace.Play.{Play}
 use Rattle.hand_canon.specs.declared.trace.Trace.{Trace}
 use Rattle.hand_canon.specs.declared.writing.Keep.{Keep}
 use Rattle.hand_canon.specs.declared.writing.Keep.TheVariants as keeps
-use Rattle.poker_cli.specs.Answer.{IsAnswerIn}
+use Rattle.poker_cli.specs.Answer as answers
+use Rattle.poker_cli.specs.Answer.{IsAnswer, IsAnswerIn}
 use Rattle.poker_cli.specs.AnswerParts.{Answer, most_input, to_refusal}
 use Rattle.poker_cli.specs.Files.{Files}
 use Rattle.poker_cli.specs.AnswerParts as parts_said
 use Rattle.poker_cli.specs.Compare as in_compare
-use Rattle.poker_cli.specs.Compare.{AsksToCompare, DifferentHand, IsComparedTo, IsComparedWith, IsComparison, compared, compared_by, comparison_under, first_different, in_file, to_other_count, to_same}
+use Rattle.poker_cli.specs.Asked.{IsAsked}
+use Rattle.poker_cli.specs.Compare.{DifferentHand, IsComparedWith, compared, compared_by, first_different, to_other_count, to_same}
+use Rattle.poker_cli.specs.ComparedRuns.{BothRead}
 use Rattle.poker_cli.specs.Headline.{ConvertsInto}
 use Rattle.convert_core.specs.Formats.{AreSameIn, HaveFault, SayRecords, first_refusal_in, kept_in, meaning_of, unspelled_in}
-use Rattle.poker_cli.specs.Run.{Ends, IsFileMissing, IsGameMissing, RefusesNothing, Sinks}
-use Rattle.poker_cli.specs.declared.compare.Comparison.{Comparison}
+use Rattle.poker_cli.specs.Run.{Ends, RefusesNothing, Sinks}
 use Rattle.poker_cli.specs.declared.status.Status.{Status}
 use Rattle.poker_cli.specs.declared.status.Status.TheVariants as statuses
 use Rattle.convert_core.specs.declared.format.Format.{Format}
 use Rattle.poker_cli.proofs.LawfulFormats.{equal_runs}
-use Rattle.poker_cli.proofs.OneAnswer.{AllToldAlike, done_so, ends_so, games_same, made_of, no_game, one_told, read_the_same, refused_or_played, same_answer, say_or_fault}
-
--- two plays are the same hand, with their notes
-abbrev Same : ℕ → Play → Play → Type 0
-Same = AreSameHand (λ notes. notes)
-
--- ---- the first hand that differs
-
--- the same hands have the same difference
-same_difference : (notes : Bool) (place : ℕ) (p q o t : Play) → Same place p q → Same place o t
-    → first_difference notes place p o ≡ first_difference notes place q t
-unfolding first_difference
-same_difference notes place p q o t same too =
-    ap₂ option_or
-    (ap₂ (λ (a b : Trace). play_difference (record p { trace = a }) (record o { trace = b })) same.trace too.trace)
-    (ap₂ (λ (a b : SaidNotes). if notes then note_difference a b else None) same.notes too.notes)
-
-same_different : (notes : Bool) (place : ℕ) (ps qs os ts : List Play) → AllPaired Same place ps qs → AllPaired Same place os ts
-    → first_different notes place ps os ≡ first_different notes place qs ts
-unfolding first_different AllPaired
-same_different notes place [] [] os ts same too = refl
-same_different notes place [] (q ∷ qs) os ts same too = absurd same
-same_different notes place (p ∷ ps) [] os ts same too = absurd same
-same_different notes place (p ∷ ps) (q ∷ qs) [] [] same too = refl
-same_different notes place (p ∷ ps) (q ∷ qs) [] (t ∷ ts) same too = absurd too
-same_different notes place (p ∷ ps) (q ∷ qs) (o ∷ os) [] same too = absurd too
-same_different notes place (p ∷ ps) (q ∷ qs) (o ∷ os) (t ∷ ts) same too =
-    ap₂ (λ (found : Option PlainDifference) (rest : Option DifferentHand).
-    option_or (option_map (λ difference. record { number = place + 1; difference = difference }) found) rest)
-    (same_difference notes place p q o t same.0 too.0) (same_different notes (place + 1) ps qs os ts same.1 too.1)
-
-paired_count : (P : ℕ → Play → Play → Type 0) (place : ℕ) (ps qs : List Play) → AllPaired P place ps qs → length ps ≡ length qs
-unfolding AllPaired
-paired_count P place [] [] all = refl
-paired_count P place [] (q ∷ qs) all = absurd all
-paired_count P place (p ∷ ps) [] all = absurd all
-paired_count P place (p ∷ ps) (q ∷ qs) all = ap suc (paired_count P (place + 1) ps qs all.1)
-
-same_compared : (notes : Bool) (ps qs os ts : List Play) → AllPaired Same 0 ps qs → AllPaired Same 0 os ts
-    → compared notes ps os ≡ compared notes qs ts
-same_compared notes ps qs os ts same too =
-    ap (λ (found : Option DifferentHand). compared_by found (length ps) (length os)) (same_different notes 0 ps qs os ts same too)
-    ∙ ap₂ (compared_by (first_different notes 0 qs ts)) (paired_count Same 0 ps qs same) (paired_count Same 0 os ts too)
-
--- ---- one answer
-
-one_compared : (other : Format) (notes : Bool) (file : List ℕ) (ps qs : List Play) (answer too : Answer) → AreReadSame ps qs
-    → IsComparedWith other notes file ps answer → IsComparedWith other notes file qs too → answer ≡ too
-unfolding AllToldAlike
-one_compared other notes file ps qs _ _ same (in_compare.OtherUnread fault have answer shown) (in_compare.OtherUnread found has too tells) =
-    ap in_file (one_told other file fault found answer too have has shown tells)
-one_compared other notes file ps qs _ _ same (in_compare.OtherUnread fault have answer shown) (in_compare.OtherRefused number why first) =
-    absurd (no_fault (lawful_of other) file first.records fault first.say have)
-one_compared other notes file ps qs _ _ same (in_compare.OtherUnread fault have answer shown) (in_compare.OtherPlayed others read) =
-    absurd (no_fault (lawful_of other) file read.records fault read.say have)
-one_compared other notes file ps qs _ _ same (in_compare.OtherRefused number why first) (in_compare.OtherUnread fault have answer shown) =
-    absurd (no_fault (lawful_of other) file first.records fault first.say have)
-one_compared other notes file ps qs _ _ same (in_compare.OtherRefused number why first) (in_compare.OtherRefused count reason next) =
-    let both = same_refused first.records next.records number count why reason
-    (all_same first.records next.records ((lawful_of other).one_reading file first.records next.records first.say next.say)) first.first next.first in
-    ap₂ (λ (n : ℕ) (w : Refusal). in_file (to_refusal n w)) both.0 both.1
-one_compared other notes file ps qs _ _ same (in_compare.OtherRefused number why first) (in_compare.OtherPlayed others read) =
-    absurd (refused_or_played first.records read.records number why others ((lawful_of other).one_reading file first.records read.records first.say read.say) first.first read.are)
-one_compared other notes file ps qs _ _ same (in_compare.OtherPlayed others read) (in_compare.OtherUnread fault have answer shown) =
-    absurd (no_fault (lawful_of other) file read.records fault read.say have)
-one_compared other notes file ps qs _ _ same (in_compare.OtherPlayed others read) (in_compare.OtherRefused number why first) =
-    absurd (refused_or_played first.records read.records number why others ((lawful_of other).one_reading file first.records read.records first.say read.say) first.first read.are)
-one_compared other notes file ps qs _ _ same (in_compare.OtherPlayed others read) (in_compare.OtherPlayed too reads) =
-    same_compared notes ps qs others too same.hands (read_same (lawful_of other) file others too read reads)
-
-pub one_comparison : (by : Comparison) (file bytes : List ℕ) (answer other : Answer)
-    → IsComparison by file bytes answer → IsComparison by file bytes other → answer ≡ other
-one_comparison by file bytes _ _ (in_compare.InputTooLong many) (in_compare.InputTooLong too) = refl
-one_comparison by file bytes _ other (in_compare.InputTooLong many) (in_compare.InputRead few _ is) = absurd (omega (arith, many, few))
-one_comparison by file bytes answer _ (in_compare.InputRead few _ is) (in_compare.InputTooLong many) = absurd (omega (arith, many, few))
-one_comparison by file bytes answer other (in_compare.InputRead few _ is) (in_compare.InputRead less _ it) =
-    same_answer (SayRecords by.from bytes) (HaveFault by.from bytes) (IsComparedWith by.other by.notes file) (λ one too. one ≡ too) answer other
-    (record { itself = λ one too same. same; made = λ ps qs one too judged traced alike same so it_is. one_compared by.other by.notes file ps qs one too same so it_is })
-    ((lawful_of by.from).one_reading bytes) (read_the_same by.from bytes) (one_told by.from bytes) (say_or_fault by.from bytes) is it
+use Rattle.poker_cli.proofs.OneAnswer.{as_asked, done_so, ends_so, legal_asked, no_file_missing, no_missing}
+use Rattle.poker_cli.proofs.OneComparison.{Same, paired_count, same_compared}
+use Rattle.poker_cli.proofs.ReadAlike.{refused_or_played}
 
 -- ---- hands that are all legal
 
@@ -137,66 +63,24 @@ with_legal other notes file plays others _ read (in_compare.OtherRefused number 
 with_legal other notes file plays others _ read (in_compare.OtherPlayed too reads) =
     same_compared notes plays plays too others (own_hands 0 plays) (read_same (lawful_of other) file too others reads read)
 
-pub compared_legal : (by : Comparison) (file bytes : List ℕ) (plays others : List Play) (answer : Answer) → length bytes ≤ most_input
-    → ReadAsPlays (SayRecords by.from bytes) plays → ReadAsPlays (SayRecords by.other file) others → IsComparison by file bytes answer
-    → answer ≡ compared by.notes plays others
-compared_legal by file bytes plays others _ few read reads (in_compare.InputTooLong many) = absurd (omega (arith, many, few))
-compared_legal by file bytes plays others answer few read reads (in_compare.InputRead less _ to) =
-    let made = made_of (SayRecords by.from bytes) (HaveFault by.from bytes) (IsComparedWith by.other by.notes file) read.records plays answer
-    ((lawful_of by.from).one_reading bytes) (read_the_same by.from bytes) (say_or_fault by.from bytes) read.say read.are to in
-    with_legal by.other by.notes file made.others others answer reads made.made
-    ∙ sym (same_compared by.notes plays made.others others others made.same.hands (read_same (lawful_of by.other) file others others reads reads))
-
--- a request to compare is answered by the bytes of its file
-to_other : (by : Comparison) (file : Option (List ℕ)) (text bytes : List ℕ) (answer : Answer) → file ≡ Some text → length text ≤ most_input
-    → IsComparedTo by file bytes answer → IsComparison by text bytes answer
-to_other by file text bytes _ there short (in_compare.OtherTooLong found is many) =
-    let same : found ≡ text = same_Some found text (sym is ∙ there) in
-    let few : length found ≤ most_input = subst (λ (t : List ℕ). length t ≤ most_input) (sym same) short in
-    absurd (omega (arith, many, few))
-to_other by file text bytes answer there short (in_compare.ToOther found is few _ to) =
-    subst (λ (t : List ℕ). IsComparison by t bytes answer) (same_Some found text (sym is ∙ there)) to
-
-pub by_request : (request : Request) (files : Files) (by : Comparison) (text bytes : List ℕ) (answer : Answer) → AsksToCompare files request by text
-    → IsAnswerIn request files bytes answer → IsComparison by text bytes answer
-by_request (Load seed hands) files by text bytes answer asks is = absurd asks
-by_request (Plain from command) files by text bytes answer asks is = absurd asks
-by_request (Under name logs) files by text bytes answer asks is = absurd asks
-by_request (Compare (PlainSides from other) file notes) files by text bytes answer asks is =
-    subst (λ (c : Comparison). IsComparison c text bytes answer) (sym asks.comparison)
-    (to_other (in_compare.plain_comparison from other notes) files.other text bytes answer asks.there asks.short is)
-by_request (Compare (SidesUnder name from other) file notes) files by text bytes answer asks (in_compare.NoGameToCompare _ lacks) =
-    absurd (no_game files.game asks.comparison.game answer asks.comparison.gives lacks)
-by_request (Compare (SidesUnder name from other) file notes) files by text bytes answer asks (in_compare.ComparedInGame game gives _ to) =
-    subst (λ (c : Comparison). IsComparison c text bytes answer)
-    (ap (λ (g : AnyGame). comparison_under g from other notes) (games_same files.game game asks.comparison.game gives asks.comparison.gives)
-    ∙ sym asks.comparison.same)
-    (to_other (comparison_under game from other notes) files.other text bytes answer asks.there asks.short to)
-
--- no game file and no other file is missing
-no_game_missing : (request : Request) (files : Files) (by : Comparison) (text : List ℕ) → AsksToCompare files request by text → IsGameMissing request files → ⊥
-no_game_missing (Load seed hands) files by text asks missing = asks
-no_game_missing (Plain from command) files by text asks missing = asks
-no_game_missing (Under name logs) files by text asks missing = asks
-no_game_missing (Compare (PlainSides from other) file notes) files by text asks missing = missing
-no_game_missing (Compare (SidesUnder name from other) file notes) files by text asks missing = let there = asks.comparison.gives.there in cc (there, missing)
-
-no_other_missing : (request : Request) (files : Files) (by : Comparison) (text : List ℕ) → AsksToCompare files request by text → IsFileMissing request files → ⊥
-no_other_missing (Load seed hands) files by text asks missing = asks
-no_other_missing (Plain from command) files by text asks missing = asks
-no_other_missing (Under name logs) files by text asks missing = asks
-no_other_missing (Compare (PlainSides from other) file notes) files by text asks missing = let there = asks.there in cc (there, missing)
-no_other_missing (Compare (SidesUnder name from other) file notes) files by text asks missing = let there = asks.there in let none = missing.1 in cc (there, none)
+pub compared_legal : (from other : Format) (notes : Bool) (file bytes : List ℕ) (plays others : List Play) (answer : Answer) → length bytes ≤ most_input
+    → ReadAsPlays (SayRecords from bytes) plays → ReadAsPlays (SayRecords other file) others → IsAnswer (commands.Compare from other file notes) bytes answer
+    → answer ≡ compared notes plays others
+compared_legal from other notes file bytes plays others answer few read reads to =
+    let made = legal_asked (commands.Compare from other file notes) bytes plays answer tt few read to in
+    with_legal other notes file made.others others answer reads made.made
+    ∙ sym (same_compared notes plays made.others others others made.same.hands (read_same (lawful_of other) file others others reads reads))
 
 -- a run of `compare` ends with the status of the comparison, if all hands of both files are legal
-pub legal_compares : (request : Request) (by : Comparison) (files : Files) (text bytes : List ℕ) (plays others : List Play)
-    → (out diag : Sinks) (status : Status) → AsksToCompare files request by text → length bytes ≤ most_input
-    → ReadAsPlays (SayRecords by.from bytes) plays → ReadAsPlays (SayRecords by.other text) others
-    → Ends request files bytes out diag status → RefusesNothing status ⊎ ((compared by.notes plays others).status ≡ status)
-legal_compares request by files text bytes plays others out diag status asks few read reads ends =
-    ends_so request files bytes out diag status (compared by.notes plays others).status
-    (λ answer is. ap (λ (a : Answer). a.status) (compared_legal by text bytes plays others answer few read reads (by_request request files by text bytes answer asks is)))
-    (no_game_missing request files by text asks) (no_other_missing request files by text asks) ends
+pub legal_compares : (request : Request) (from other : Format) (notes : Bool) (files : Files) (text bytes : List ℕ) (plays others : List Play)
+    → (out diag : Sinks) (status : Status) → IsAsked files request (commands.Compare from other text notes) → BothRead from other text bytes plays others
+    → Ends request files bytes out diag status → RefusesNothing status ⊎ ((compared notes plays others).status ≡ status)
+legal_compares request from other notes files text bytes plays others out diag status asks both ends =
+    let command = commands.Compare from other text notes in
+    ends_so request files bytes out diag status (compared notes plays others).status
+    (λ answer is. ap (λ (a : Answer). a.status)
+    (compared_legal from other notes text bytes plays others answer both.within both.read both.reads (as_asked request files bytes command answer asks is)))
+    (no_missing files request command asks) (no_file_missing files request command asks) ends
 
 -- ---- which hands are the same
 
@@ -305,12 +189,9 @@ module _ (from to : Format) (keep : Keep) (bytes output : List ℕ) (into : Conv
 
   -- the answer if the output is the other file
   beside_output : (notes : Bool) (answer : Answer) → (notes ≡ true → first_refusal_in to keeps.All into.plays ≡ None)
-      → IsComparison (record { from = from; other = to; notes = notes }) output bytes answer → answer.status ≡ statuses.Done
-  beside_output notes _ none (in_compare.InputTooLong many) = let few = into.can.within in absurd (omega (arith, many, few))
-  beside_output notes answer none (in_compare.InputRead less _ made) =
-      let legal = into.can.legal in
-      let alike = made_of (SayRecords from bytes) (HaveFault from bytes) (IsComparedWith to notes output) legal.records into.plays answer
-      ((lawful_of from).one_reading bytes) (read_the_same from bytes) (say_or_fault from bytes) legal.say legal.are made in
+      → IsAnswer (commands.Compare from to output notes) bytes answer → answer.status ≡ statuses.Done
+  beside_output notes answer none is =
+      let alike = legal_asked (commands.Compare from to output notes) bytes into.plays answer tt into.can.within into.can.legal is in
       go alike.others answer (all_turned (λ notes. notes) into.plays alike.others alike.same.hands) alike.made
     where
       go : (plays : List Play) (answer : Answer) → AllPaired Same 0 plays into.plays → IsComparedWith to notes output plays answer
@@ -324,12 +205,12 @@ module _ (from to : Format) (keep : Keep) (bytes output : List ℕ) (into : Conv
 
   -- and if it is the input
   before_source : (notes : Bool) (answer : Answer) → (notes ≡ true → first_refusal_in to keeps.All into.plays ≡ None) → length output ≤ most_input
-      → IsComparison (record { from = to; other = from; notes = notes }) bytes output answer → answer.status ≡ statuses.Done
-  before_source notes _ none few (in_compare.InputTooLong many) = absurd (omega (arith, many, few))
-  before_source notes answer none few (in_compare.InputRead less _ (parts_said.Unread fault have _ shown)) = absurd (into.back.no_fault fault have)
-  before_source notes _ none few (in_compare.InputRead less _ (parts_said.Refused number why first)) =
+      → IsAnswer (commands.Compare to from bytes notes) output answer → answer.status ≡ statuses.Done
+  before_source notes _ none few (answers.TooLong many) = absurd (omega (arith, many, few))
+  before_source notes answer none few (answers.Read less _ (parts_said.Unread fault have _ shown)) = absurd (into.back.no_fault fault have)
+  before_source notes _ none few (answers.Read less _ (parts_said.Refused number why first)) =
       absurd (never_refused (meaning_of to) into.plays output number why into.back first)
-  before_source notes answer none few (in_compare.InputRead less _ (parts_said.Played others reads _ made)) =
+  before_source notes answer none few (answers.Read less _ (parts_said.Played others reads _ made)) =
       ap (λ (a : Answer). a.status) (with_legal from notes bytes others into.plays answer into.can.legal made)
       ∙ turned notes none
     where
@@ -348,46 +229,46 @@ module _ (from to : Format) (keep : Keep) (bytes output : List ℕ) (into : Conv
 pub compares_output : (request : Request) (files : Files) (from to : Format) (keep : Keep) (notes : Bool) (bytes output : List ℕ)
     → (out diag : Sinks) (status : Status) (into : ConvertsInto from to keep bytes output)
     → (notes ≡ true → first_refusal_in to keeps.All into.plays ≡ None)
-    → AsksToCompare files request (record { from = from; other = to; notes = notes }) output
+    → IsAsked files request (commands.Compare from to output notes)
     → Ends request files bytes out diag status → RefusesNothing status
 compares_output request files from to keep notes bytes output out diag status into none asks ends =
-    let by : Comparison = record { from = from; other = to; notes = notes } in
+    let command = commands.Compare from to output notes in
     done_so status
     (ends_so request files bytes out diag status statuses.Done
-    (λ answer is. beside_output from to keep bytes output into notes answer none (by_request request files by output bytes answer asks is))
-    (no_game_missing request files by output asks) (no_other_missing request files by output asks) ends)
+    (λ answer is. beside_output from to keep bytes output into notes answer none (as_asked request files bytes command answer asks is))
+    (no_missing files request command asks) (no_file_missing files request command asks) ends)
 
 pub compares_source : (request : Request) (files : Files) (from to : Format) (keep : Keep) (notes : Bool) (bytes output : List ℕ)
     → (out diag : Sinks) (status : Status) (into : ConvertsInto from to keep bytes output)
     → (notes ≡ true → first_refusal_in to keeps.All into.plays ≡ None) → length output ≤ most_input
-    → AsksToCompare files request (record { from = to; other = from; notes = notes }) bytes
+    → IsAsked files request (commands.Compare to from bytes notes)
     → Ends request files output out diag status → RefusesNothing status
 compares_source request files from to keep notes bytes output out diag status into none few asks ends =
-    let by : Comparison = record { from = to; other = from; notes = notes } in
+    let command = commands.Compare to from bytes notes in
     done_so status
     (ends_so request files output out diag status statuses.Done
-    (λ answer is. before_source from to keep bytes output into notes answer none few (by_request request files by bytes output answer asks is))
-    (no_game_missing request files by bytes asks) (no_other_missing request files by bytes asks) ends)
+    (λ answer is. before_source from to keep bytes output into notes answer none few (as_asked request files output command answer asks is))
+    (no_missing files request command asks) (no_file_missing files request command asks) ends)
 
 -- two files that are converted with all notes are the same if and only if their outputs are
 pub compares_outputs : (request : Request) (files : Files) (from other to : Format) (bytes too output written : List ℕ)
     → (out diag : Sinks) (status : Status) → ConvertsInto from to keeps.All bytes output → ConvertsInto other to keeps.All too written
-    → AsksToCompare files request (record { from = from; other = other; notes = true }) too
+    → IsAsked files request (commands.Compare from other too true)
     → Ends request files bytes out diag status
     → (AreSameIn to output written → RefusesNothing status) × (status ≡ statuses.Done → AreSameIn to output written)
 compares_outputs request files from other to bytes too output written out diag status into into_too asks ends =
-    let by : Comparison = record { from = from; other = other; notes = true } in
+    let command = commands.Compare from other too true in
     let plays = into.plays in
     let others = into_too.plays in
     let same = same_with_all plays others (read_sound (lawful_of from) bytes plays into.can.legal) (read_sound (lawful_of other) too others into_too.can.legal) in
     let equal = equal_runs from other to keeps.All bytes too output written plays others into.can.legal into_too.can.legal into into_too in
     let answered = λ (answer : Answer) (is : IsAnswerIn request files bytes answer).
-    compared_legal by too bytes plays others answer into.can.within into.can.legal into_too.can.legal (by_request request files by too bytes answer asks is) in (
+    compared_legal from other true too bytes plays others answer into.can.within into.can.legal into_too.can.legal (as_asked request files bytes command answer asks is) in (
       (λ alike.
           done_so status
           (ends_so request files bytes out diag status statuses.Done
           (λ answer is. ap (λ (a : Answer). a.status) (answered answer is) ∙ same.1 (equal.1 alike))
-          (no_game_missing request files by too asks) (no_other_missing request files by too asks) ends)),
+          (no_missing files request command asks) (no_file_missing files request command asks) ends)),
       (λ done.
           let so : Ends request files bytes out diag statuses.Done = subst (λ (s : Status). Ends request files bytes out diag s) done ends in
           equal.0 (same.0 (sym (ap (λ (a : Answer). a.status) (answered so.answer so.to_input)) ∙ so.ends))),

@@ -2,12 +2,11 @@
 use Rattle.std.proofs.Common.{ℕ, ◌<◌, suc, List, length, Option, Some, None, IfSome, refl, arith}
 use Rattle.std.proofs.Math.ListN.{replicate}
 use Rattle.std.proofs.lemmas.List.{length-replicate}
-use Rattle.command_words.specs.Words.{Sides, PlainSides, SidesUnder}
 use Rattle.host_io.specs.Shelf.{IsAnswer, IsWithin}
 use Rattle.host_io.specs.declared.shelf.Fetched.{Fetched}
 use Rattle.host_io.specs.declared.shelf.Fetched.TheVariants.{Bytes, Absent, TooLong}
 use Rattle.poker_cli.specs.Files.{Files, FilesByName}
-use Rattle.poker_cli.specs.Run.{OfFile, OfGameFile}
+use Rattle.poker_cli.specs.Run.{OfFile, OfNamed}
 
 -- what follows for a file
 pub of_file : (shown : Option FilesByName) (name : List ℕ) (P Q : Option (List ℕ) → Type 0) → ((file : Option (List ℕ)) → P file → Q file)
@@ -20,20 +19,17 @@ pub any_file : (shown : Option FilesByName) (name : List ℕ) (P : Option (List 
 any_file (Some files) name P each = each (files name)
 any_file None name P each = (None, each None)
 
--- the same of the game file of a comparison
-pub of_game_file : (shown : Option FilesByName) (sides : Sides) (P Q : Option (List ℕ) → Type 0) → ((file : Option (List ℕ)) → P file → Q file)
-    → OfGameFile shown sides P → OfGameFile shown sides Q
-of_game_file shown (PlainSides from other) P Q more is = more None is
-of_game_file shown (SidesUnder name from other) P Q more is = of_file shown name P Q more is
+-- the same of a file that may be named
+pub of_named : (shown : Option FilesByName) (name : Option (List ℕ)) (P Q : Option (List ℕ) → Type 0) → ((file : Option (List ℕ)) → P file → Q file)
+    → OfNamed shown name P → OfNamed shown name Q
+of_named shown None P Q more is = more None is
+of_named shown (Some name) P Q more is = of_file shown name P Q more is
 
-pub any_game_file : (shown : Option FilesByName) (sides : Sides) (P : Option (List ℕ) → Type 0) → ((file : Option (List ℕ)) → P file) → OfGameFile shown sides P
-any_game_file shown (PlainSides from other) P each = each None
-any_game_file shown (SidesUnder name from other) P each = any_file shown name P each
+pub any_named : (shown : Option FilesByName) (name : Option (List ℕ)) (P : Option (List ℕ) → Type 0) → ((file : Option (List ℕ)) → P file) → OfNamed shown name P
+any_named shown None P each = each None
+any_named shown (Some name) P each = any_file shown name P each
 
--- the files of a request that names a game file alone, or two files
-abbrev pub game_alone : Option (List ℕ) → Files
-game_alone game = record { game = game; other = None }
-
+-- two files
 abbrev pub two_files : (game other : Option (List ℕ)) → Files
 two_files game other = record { game = game; other = other }
 

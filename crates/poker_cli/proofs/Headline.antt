@@ -1,8 +1,12 @@
 -- How a conversion ends follows from the answer to its input.
-use Rattle.std.proofs.Common.{◌≡◌, ◌⊎◌, ℕ, ◌≤◌, List, length, Option, Some, None, IfSome, refl, sym, subst, ap, inl, inr, arith}
-use Rattle.command_words.specs.Words.{Load, Plain, Request, Under, Compare}
-use Rattle.command_words.specs.declared.request.Logs.TheVariants as logs_are
-use Rattle.command_words.specs.declared.command.Command.TheVariants as commands
+use Rattle.std.proofs.Common.{◌≡◌, ◌⊎◌, ◌||◌, ℕ, ◌≤◌, true, List, length, Option, Some, None, IfSome, refl, sym, subst, ap, inl, inr, arith}
+use Rattle.acpc_game.specs.declared.game.Game.{Game as AnyGame}
+use Rattle.command_words.specs.Command as commands
+use Rattle.command_words.specs.Command.{Command, is_log, names_log, reads_file}
+use Rattle.command_words.specs.Words.{Plain, Request, Under}
+use Rattle.command_words.specs.declared.notation.NotationName.{NotationName}
+use Rattle.command_words.specs.declared.notation.NotationName.TheVariants as names
+use Rattle.command_words.specs.declared.notation.PlainNotation.{PlainNotation}
 use Rattle.convert_core.specs.FormatLaws.{lawful_of}
 use Rattle.convert_core.proofs.LawfulNotations.{no_fault}
 use Rattle.convert_core.specs.Faults.{excess_of}
@@ -21,14 +25,14 @@ use Rattle.poker_cli.specs.Convert as in_convert
 use Rattle.poker_cli.specs.Headline.{AsksToConvert, CanConvert, ConversionEnds, ConvertsInto, EndsOver, Headline, IsOfHands, IsOfLogs, NamesFault, IsTooLong, NamesRefused, NamesUnspelled, PrintsAlone}
 use Rattle.convert_core.specs.Formats.{SayRecords}
 use Rattle.poker_cli.specs.Run.{AsksForFile, Ends, EndsLeaving, PrintsLine, RefusesNothing, Sinks, WhereShown, WritesNothing, fixed_line}
-use Rattle.poker_cli.specs.Ways.{way}
+use Rattle.poker_cli.specs.Asked.{HasFile}
+use Rattle.poker_cli.specs.NamedFormats.{format_under, in_formats_under, in_plain_formats}
 use Rattle.poker_cli.specs.declared.status.Status.{Status}
 use Rattle.poker_cli.specs.declared.status.Status.TheVariants as statuses
 use Rattle.convert_core.specs.declared.format.Format.{Format}
 use Rattle.convert_core.specs.declared.format.Format.TheVariants as readers
-use Rattle.poker_cli.specs.declared.task.Job.{Job}
 use Rattle.poker_cli.proofs.Answering.{is_to_unread, where_told}
-use Rattle.poker_cli.proofs.OneAnswer.{in_way, legal_in_way, no_file_missing, no_missing}
+use Rattle.poker_cli.proofs.OneAnswer.{as_asked, legal_in_way, no_file_missing, no_missing}
 use Rattle.card_set.proofs.Options.{some_more}
 
 -- the status of a fault of bytes is BadInput or Limit
@@ -52,7 +56,7 @@ not_unread fault answer status other shown same = other (subst IsUnread same (fa
 
 module _ (from to : Format) (keep : Keep) (bytes : List ℕ) where
   -- an answer that is done
-  pub done_into : (answer : Answer) → IsAnswer (commands.Convert to keep) from bytes answer → answer.status ≡ statuses.Done → ConvertsInto from to keep bytes answer.output
+  pub done_into : (answer : Answer) → IsAnswer (commands.Convert from to keep) bytes answer → answer.status ≡ statuses.Done → ConvertsInto from to keep bytes answer.output
   unfolding IsUnread
   done_into _ (answers.TooLong many) same = absurd (cc (same))
   done_into answer (answers.Read few _ (parts.Unread fault have _ shown)) same = absurd (not_unread fault answer statuses.Done (λ un. un) shown same)
@@ -63,7 +67,7 @@ module _ (from to : Format) (keep : Keep) (bytes : List ℕ) where
 
   module _ (out diag : Sinks) where
     -- a refused hand
-    refused_so : (answer : Answer) → IsAnswer (commands.Convert to keep) from bytes answer → answer.status ≡ statuses.Refused
+    refused_so : (answer : Answer) → IsAnswer (commands.Convert from to keep) bytes answer → answer.status ≡ statuses.Refused
         → PrintsAlone out diag answer.line → NamesRefused from bytes out diag
     unfolding IsUnread
     refused_so _ (answers.TooLong many) same shown = absurd (cc (same))
@@ -74,7 +78,7 @@ module _ (from to : Format) (keep : Keep) (bytes : List ℕ) where
     refused_so _ (answers.Read few _ (parts.Played plays read _ (in_convert.Spelled none output spell back))) same shown = absurd (cc (same))
 
     -- a fact that cannot be written
-    unspelled_so : (answer : Answer) → IsAnswer (commands.Convert to keep) from bytes answer → answer.status ≡ statuses.Unspelled
+    unspelled_so : (answer : Answer) → IsAnswer (commands.Convert from to keep) bytes answer → answer.status ≡ statuses.Unspelled
         → PrintsAlone out diag answer.line → NamesUnspelled from to keep bytes out diag
     unfolding IsUnread
     unspelled_so _ (answers.TooLong many) same shown = absurd (cc (same))
@@ -85,7 +89,7 @@ module _ (from to : Format) (keep : Keep) (bytes : List ℕ) where
     unspelled_so _ (answers.Read few _ (parts.Played plays read _ (in_convert.Spelled none output spell back))) same shown = absurd (cc (same))
 
     -- bytes that cannot be read
-    bad_so : (answer : Answer) → IsAnswer (commands.Convert to keep) from bytes answer → answer.status ≡ statuses.BadInput
+    bad_so : (answer : Answer) → IsAnswer (commands.Convert from to keep) bytes answer → answer.status ≡ statuses.BadInput
         → PrintsAlone out diag answer.line → NamesFault from bytes out diag statuses.BadInput
     bad_so _ (answers.TooLong many) same shown = absurd (cc (same))
     bad_so answer (answers.Read few _ (parts.Unread fault have _ is)) same shown =
@@ -95,7 +99,7 @@ module _ (from to : Format) (keep : Keep) (bytes : List ℕ) where
     bad_so _ (answers.Read few _ (parts.Played plays read _ (in_convert.Spelled none output spell back))) same shown = absurd (cc (same))
 
     -- bytes over a limit
-    limit_so : (answer : Answer) → IsAnswer (commands.Convert to keep) from bytes answer → answer.status ≡ statuses.Limit
+    limit_so : (answer : Answer) → IsAnswer (commands.Convert from to keep) bytes answer → answer.status ≡ statuses.Limit
         → PrintsAlone out diag answer.line → IsTooLong bytes out diag ⊎ NamesFault from bytes out diag statuses.Limit
     limit_so _ (answers.TooLong many) same shown = inl (record { beyond = many; shown = shown })
     limit_so answer (answers.Read few _ (parts.Unread fault have _ is)) same shown =
@@ -105,7 +109,7 @@ module _ (from to : Format) (keep : Keep) (bytes : List ℕ) where
     limit_so _ (answers.Read few _ (parts.Played plays read _ (in_convert.Spelled none output spell back))) same shown = absurd (cc (same))
 
   -- no question about one hand is asked
-  never_none : (answer : Answer) → IsAnswer (commands.Convert to keep) from bytes answer → answer.status ≡ statuses.NoSuch → ⊥
+  never_none : (answer : Answer) → IsAnswer (commands.Convert from to keep) bytes answer → answer.status ≡ statuses.NoSuch → ⊥
   unfolding IsUnread
   never_none _ (answers.TooLong many) same = cc (same)
   never_none answer (answers.Read few _ (parts.Unread fault have _ is)) same = not_unread fault answer statuses.NoSuch (λ un. un) is same
@@ -114,7 +118,7 @@ module _ (from to : Format) (keep : Keep) (bytes : List ℕ) where
   never_none _ (answers.Read few _ (parts.Played plays read _ (in_convert.Spelled none output spell back))) same = cc (same)
 
   -- nothing is compared
-  never_differs : (answer : Answer) → IsAnswer (commands.Convert to keep) from bytes answer → answer.status ≡ statuses.Differs → ⊥
+  never_differs : (answer : Answer) → IsAnswer (commands.Convert from to keep) bytes answer → answer.status ≡ statuses.Differs → ⊥
   unfolding IsUnread
   never_differs _ (answers.TooLong many) same = cc (same)
   never_differs answer (answers.Read few _ (parts.Unread fault have _ is)) same = not_unread fault answer statuses.Differs (λ un. un) is same
@@ -123,7 +127,7 @@ module _ (from to : Format) (keep : Keep) (bytes : List ℕ) where
   never_differs _ (answers.Read few _ (parts.Played plays read _ (in_convert.Spelled none output spell back))) same = cc (same)
 
   -- the game file has no part in it
-  never_game : (answer : Answer) → IsAnswer (commands.Convert to keep) from bytes answer → answer.status ≡ statuses.BadGame → ⊥
+  never_game : (answer : Answer) → IsAnswer (commands.Convert from to keep) bytes answer → answer.status ≡ statuses.BadGame → ⊥
   unfolding IsUnread
   never_game _ (answers.TooLong many) same = cc (same)
   never_game answer (answers.Read few _ (parts.Unread fault have _ is)) same = not_unread fault answer statuses.BadGame (λ un. un) is same
@@ -131,19 +135,33 @@ module _ (from to : Format) (keep : Keep) (bytes : List ℕ) where
   never_game _ (answers.Read few _ (parts.Played plays read _ (in_convert.NotSpelled number fact is))) same = cc (same)
   never_game _ (answers.Read few _ (parts.Played plays read _ (in_convert.Spelled none output spell back))) same = cc (same)
 
--- if a shelf is asked for a game, a notation is that of logs
+-- if a shelf is asked for a file, a notation is that of logs: a conversion has no other file
+plain_alone : (file : Option (List ℕ)) (command : Command PlainNotation) (from to : Format) (keep : Keep) → HasFile file (in_plain_formats command) (commands.Convert from to keep)
+    → reads_file command ≡ true → ⊥
+plain_alone file (commands.Compare first other name notes) from to keep has reads = let same = has.1.1.1 in cc (same)
+plain_alone file command from to keep has reads = cc (reads)
+
+of_logs : (game : AnyGame) (first second : NotationName) → is_log first || is_log second ≡ true → IsOfLogs (format_under game first) ⊎ IsOfLogs (format_under game second)
+of_logs game names.Acpc second log = inl tt
+of_logs game (names.Plain first) names.Acpc log = inr tt
+of_logs game (names.Plain first) (names.Plain second) log = cc (log)
+
+same_logs : (from to first second : Format) (keep kept : Keep) → commands.Convert from to keep ≡ commands.Convert first second kept
+    → IsOfLogs first ⊎ IsOfLogs second → IsOfLogs from ⊎ IsOfLogs to
+same_logs from to first second keep kept same (inl log) = inl (subst IsOfLogs (cc (same)) log)
+same_logs from to first second keep kept same (inr log) = inr (subst IsOfLogs (cc (same)) log)
+
+under_logs : (game : AnyGame) (file : Option (List ℕ)) (command : Command NotationName) (from to : Format) (keep : Keep)
+    → HasFile file (in_formats_under game command) (commands.Convert from to keep) → names_log command ≡ true → IsOfLogs from ⊎ IsOfLogs to
+under_logs game file (commands.Convert first second kept) from to keep has log =
+    same_logs from to (format_under game first) (format_under game second) keep kept has (of_logs game first second log)
+under_logs game file (commands.Compare first other name notes) from to keep has log = let same = has.1.1.1 in cc (same)
+under_logs game file command from to keep has log = cc (has)
+
 asks_for_logs : (files : Files) (request : Request) (from to : Format) (keep : Keep) → AsksToConvert files request from to keep
     → AsksForFile request → IsOfLogs from ⊎ IsOfLogs to
-asks_for_logs files (Load seed hands) from to keep found asks = absurd found
-asks_for_logs files (Plain notation command) from to keep found asks = absurd asks
-asks_for_logs files (Under name (logs_are.Read command)) from to keep found asks =
-    let read : from ≡ readers.Acpc found.game = ap (λ (w : Job). w.reader) found.same in
-    inl (subst IsOfLogs (sym read) tt)
-asks_for_logs files (Under name (logs_are.Written notation keeps)) from to keep found asks =
-    let command : commands.Convert to keep ≡ commands.Convert (readers.Acpc found.game) keeps = ap (λ (w : Job). w.command) found.same in
-    let written : to ≡ readers.Acpc found.game = cc (command) in
-    inr (subst IsOfLogs (sym written) tt)
-asks_for_logs files (Compare sides file notes) from to keep found asks = absurd found
+asks_for_logs files (Plain command) from to keep found asks = absurd (plain_alone files.other command from to keep found asks)
+asks_for_logs files (Under name command) from to keep found asks = under_logs found.game files.other command from to keep found.has asks
 
 -- What is known, besides the answer, about the sinks after a run.
 pub record IsLeft (out diag : Sinks) (status : Status) : Type 0 where
@@ -157,47 +175,47 @@ module _ (request : Request) (files : Files) (from to : Format) (keep : Keep) (b
   conversion_ends : (status : Status) → AsksToConvert files request from to keep → Ends request files bytes out diag status
       → IsLeft out diag status → ConversionEnds from to keep bytes out diag status
   conversion_ends statuses.Done found ends left =
-      let by = way (commands.Convert to keep) from in
+      let command = commands.Convert from to keep in
       record {
         output = ends.answer.output;
-        converts = done_into from to keep bytes ends.answer (in_way request files bytes by ends.answer found ends.to_input) ends.ends;
+        converts = done_into from to keep bytes ends.answer (as_asked request files bytes command ends.answer found ends.to_input) ends.ends;
         written = ends.written;
         quiet = left.quiet refl;
       }
   conversion_ends statuses.WriteFault found ends left =
-      let by = way (commands.Convert to keep) from in
+      let command = commands.Convert from to keep in
       record {
         output = ends.answer.output;
-        converts = done_into from to keep bytes ends.answer (in_way request files bytes by ends.answer found ends.to_input) ends.ends.0;
+        converts = done_into from to keep bytes ends.answer (as_asked request files bytes command ends.answer found ends.to_input) ends.ends.0;
         written = ends.written;
         failed = left.failed refl;
         shown = left.fixed;
       }
   conversion_ends statuses.Refused found ends left =
-      refused_so from to keep bytes out diag ends.answer (in_way request files bytes (way (commands.Convert to keep) from) ends.answer found ends.to_input) ends.ends
+      refused_so from to keep bytes out diag ends.answer (as_asked request files bytes (commands.Convert from to keep) ends.answer found ends.to_input) ends.ends
       (record { unwritten = left.unwritten tt; shown = ends.line })
   conversion_ends statuses.Unspelled found ends left =
-      unspelled_so from to keep bytes out diag ends.answer (in_way request files bytes (way (commands.Convert to keep) from) ends.answer found ends.to_input) ends.ends
+      unspelled_so from to keep bytes out diag ends.answer (as_asked request files bytes (commands.Convert from to keep) ends.answer found ends.to_input) ends.ends
       (record { unwritten = left.unwritten tt; shown = ends.line })
   conversion_ends statuses.BadInput found ends left =
-      bad_so from to keep bytes out diag ends.answer (in_way request files bytes (way (commands.Convert to keep) from) ends.answer found ends.to_input) ends.ends
+      bad_so from to keep bytes out diag ends.answer (as_asked request files bytes (commands.Convert from to keep) ends.answer found ends.to_input) ends.ends
       (record { unwritten = left.unwritten tt; shown = ends.line })
   conversion_ends statuses.Limit found ends left =
-      limit_so from to keep bytes out diag ends.answer (in_way request files bytes (way (commands.Convert to keep) from) ends.answer found ends.to_input) ends.ends
+      limit_so from to keep bytes out diag ends.answer (as_asked request files bytes (commands.Convert from to keep) ends.answer found ends.to_input) ends.ends
       (record { unwritten = left.unwritten tt; shown = ends.line })
   conversion_ends statuses.ReadFault found ends left = record { unwritten = left.unwritten tt; shown = left.fixed }
   conversion_ends statuses.Memory found ends left = (ends, record { unwritten = left.unwritten tt; shown = left.fixed })
   conversion_ends statuses.ShelfFault found ends left =
       (asks_for_logs files request from to keep found ends, record { unwritten = left.unwritten tt; shown = left.fixed })
   conversion_ends statuses.Usage found ends left = ends
-  conversion_ends statuses.GameMissing found ends left = no_missing files request (way (commands.Convert to keep) from) found ends
+  conversion_ends statuses.GameMissing found ends left = no_missing files request (commands.Convert from to keep) found ends
   conversion_ends statuses.BadGame found ends left =
-      never_game from to keep bytes ends.answer (in_way request files bytes (way (commands.Convert to keep) from) ends.answer found ends.to_input) ends.ends
+      never_game from to keep bytes ends.answer (as_asked request files bytes (commands.Convert from to keep) ends.answer found ends.to_input) ends.ends
   conversion_ends statuses.NoSuch found ends left =
-      never_none from to keep bytes ends.answer (in_way request files bytes (way (commands.Convert to keep) from) ends.answer found ends.to_input) ends.ends
+      never_none from to keep bytes ends.answer (as_asked request files bytes (commands.Convert from to keep) ends.answer found ends.to_input) ends.ends
   conversion_ends statuses.Differs found ends left =
-      never_differs from to keep bytes ends.answer (in_way request files bytes (way (commands.Convert to keep) from) ends.answer found ends.to_input) ends.ends
-  conversion_ends statuses.FileMissing found ends left = no_file_missing files request (way (commands.Convert to keep) from) found ends
+      never_differs from to keep bytes ends.answer (as_asked request files bytes (commands.Convert from to keep) ends.answer found ends.to_input) ends.ends
+  conversion_ends statuses.FileMissing found ends left = no_file_missing files request (commands.Convert from to keep) found ends
 
   -- an input that reads as hands is not reported as bad input or as over a limit
   conversion_reads : (status : Status) → ConversionEnds from to keep bytes out diag status → length bytes ≤ most_input
@@ -223,7 +241,7 @@ module _ (request : Request) (files : Files) (from to : Format) (keep : Keep) (b
   conversion_exactly : (status : Status) → AsksToConvert files request from to keep → Ends request files bytes out diag status
       → (plays : List Play) → CanConvert from to keep bytes plays → RefusesNothing status
   conversion_exactly status found ends plays can =
-      legal_in_way request from to keep files bytes can.legal.records plays out diag status found can.within can.legal.say can.legal.are can.spelled ends
+      legal_in_way request from to keep files bytes plays out diag status (record { asks = found; within = can.within; read = can.legal }) can.spelled ends
 
   -- so the headline holds
   headline : (status : Status) → Ends request files bytes out diag status → IsLeft out diag status
@@ -245,7 +263,8 @@ pub ends_told : (said : Option Request) (left : Option (List ℕ)) (shown : Opti
     → LeavingTold said left shown out diag status Same → IsLeft out diag status → EndsTold said left shown out diag status Same
 ends_told said left shown out diag status Same ends is_left =
     some_more said _ _
-    (λ request. where_told request left shown _ _
+    (λ request. where_told request left shown (λ files bytes. EndsLeaving request files bytes out diag status Same)
+    (λ files bytes. EndsOver request files bytes out diag status Same)
     (λ files bytes so. record { ends = so; headline = λ from to keep. headline request files from to keep bytes out diag status so.ends is_left })) ends
 
 -- of the request that the words are read as

@@ -4,7 +4,7 @@ use Rattle.std.proofs.Common.{◌≡◌, ◌⊎◌, ℕ, zero, suc, ◌-◌, ◌
 use Rattle.std.specs.List.{slice_get}
 use Rattle.std.proofs.lemmas.Option.{same_Some}
 use Rattle.command_words.specs.Words.{Request}
-use Rattle.command_words.specs.declared.command.Command.TheVariants as commands
+use Rattle.command_words.specs.Command as commands
 use Rattle.command_words.specs.declared.command.EachQuestion.{EachQuestion}
 use Rattle.command_words.specs.declared.command.EachQuestion.TheVariants as of_each
 use Rattle.convert_core.proofs.LawfulNotations.{no_fault}
@@ -22,11 +22,10 @@ use Rattle.convert_core.specs.FormatLaws.{lawful_of}
 use Rattle.convert_core.specs.Formats.{SayRecords}
 use Rattle.poker_cli.specs.LegalInputs.{AsksOfHands, FindsNone, IsThere}
 use Rattle.poker_cli.specs.Run.{Ends, IsFileMissing, IsGameMissing, RefusesNothing, Sinks}
-use Rattle.poker_cli.specs.Ways.{way}
 use Rattle.poker_cli.specs.declared.status.Status.{Status}
 use Rattle.poker_cli.specs.declared.status.Status.TheVariants as statuses
 use Rattle.convert_core.specs.declared.format.Format.{Format}
-use Rattle.poker_cli.proofs.OneAnswer.{in_way, no_file_missing, no_missing}
+use Rattle.poker_cli.proofs.OneAnswer.{as_asked, no_file_missing, no_missing}
 use Rattle.poker_cli.proofs.OneEach.{not_here, same_at, same_beginning}
 use Rattle.replay_core.specs.Events.{said_by}
 use Rattle.replay_core.specs.LegalPart.{IsLegalBeginning}
@@ -92,7 +91,7 @@ found (of_each.Point hand events) records others answer same is = at_point hand 
 
 -- so it is for an input that reads as hands
 answered : (question : EachQuestion) (reader : Format) (bytes : List ℕ) (records : List Record) (answer : Answer) → length bytes ≤ most_input
-    → SayRecords reader bytes records → IsAnswer (commands.Each question) reader bytes answer → IsFound question records answer.status
+    → SayRecords reader bytes records → IsAnswer (commands.Each reader question) bytes answer → IsFound question records answer.status
 answered question reader bytes records _ few say (answers.TooLong many) = absurd (omega (arith, many, few))
 answered question reader bytes records answer few say (answers.Read less _ (each.NotRead fault have _ is)) = absurd (no_fault (lawful_of reader) bytes records fault say have)
 answered question reader bytes records answer few say (answers.Read less _ (each.OfEach others says _ is)) =
@@ -127,14 +126,14 @@ found_or_not question records status (inr (inl done)) = inl (subst RefusesNothin
 found_or_not question records status (inr (inr none)) = inr none
 
 pub legal_each : (request : Request) (question : EachQuestion) (reader : Format) (files : Files) (bytes : List ℕ) (records : List Record)
-    → (out diag : Sinks) (status : Status) → AsksOfHands files request (commands.Each question) reader bytes records
+    → (out diag : Sinks) (status : Status) → AsksOfHands files request (commands.Each reader question) bytes records
     → Ends request files bytes out diag status → RefusesNothing status ⊎ ((status ≡ statuses.NoSuch) × (IsThere question records → ⊥))
 legal_each request question reader files bytes records out diag status is ends =
-    let by = way (commands.Each question) reader in
+    let command = commands.Each reader question in
     found_or_not question records status
     (ends_as request files bytes out diag status (IsFound question records)
-    (λ answer to. answered question reader bytes records answer is.within is.say (in_way request files bytes by answer is.asks to))
-    (no_missing files request by is.asks) (no_file_missing files request by is.asks) ends)
+    (λ answer to. answered question reader bytes records answer is.within is.say (as_asked request files bytes command answer is.asks to))
+    (no_missing files request command is.asks) (no_file_missing files request command is.asks) ends)
 
 -- what is not there is not found
 absent_so : (question : EachQuestion) (records : List Record) (status : Status) → (IsThere question records → ⊥) → IsFound question records status
@@ -163,12 +162,12 @@ ends_absent request files bytes out diag statuses.NoSuch so there named ends = s
 ends_absent request files bytes out diag statuses.Differs so there named ends = subst FindsNone ends.ends (so ends.answer ends.to_input)
 
 pub absent_each : (request : Request) (question : EachQuestion) (reader : Format) (files : Files) (bytes : List ℕ) (records : List Record)
-    → (out diag : Sinks) (status : Status) → AsksOfHands files request (commands.Each question) reader bytes records
+    → (out diag : Sinks) (status : Status) → AsksOfHands files request (commands.Each reader question) bytes records
     → (IsThere question records → ⊥) → Ends request files bytes out diag status → FindsNone status
 absent_each request question reader files bytes records out diag status is absent ends =
-    let by = way (commands.Each question) reader in
+    let command = commands.Each reader question in
     ends_absent request files bytes out diag status
     (λ answer to.
     absent_so question records answer.status absent
-    (answered question reader bytes records answer is.within is.say (in_way request files bytes by answer is.asks to)))
-    (no_missing files request by is.asks) (no_file_missing files request by is.asks) ends
+    (answered question reader bytes records answer is.within is.say (as_asked request files bytes command answer is.asks to)))
+    (no_missing files request command is.asks) (no_file_missing files request command is.asks) ends

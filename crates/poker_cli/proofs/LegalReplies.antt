@@ -19,13 +19,12 @@ use Rattle.poker_cli.specs.Options as in_options
 use Rattle.poker_cli.specs.Equity as in_equity
 use Rattle.poker_cli.specs.Views as in_views
 use Rattle.poker_cli.specs.Run.{Ends, RefusesNothing, Sinks}
-use Rattle.poker_cli.specs.Ways.{way}
 use Rattle.poker_cli.specs.declared.status.Status.{Status}
 use Rattle.poker_cli.specs.declared.status.Status.TheVariants as statuses
 use Rattle.convert_core.specs.declared.format.Format.{Format}
 use Rattle.convert_core.specs.declared.format.Format.TheVariants as readers
-use Rattle.command_words.specs.declared.command.Command.TheVariants as commands
-use Rattle.poker_cli.proofs.OneAnswer.{done_so, ends_so, in_way, legal_asked, legal_asks, no_file_missing, no_missing}
+use Rattle.command_words.specs.Command as commands
+use Rattle.poker_cli.proofs.OneAnswer.{as_asked, done_so, ends_so, legal_asked, legal_asks, no_file_missing, no_missing}
 use Rattle.poker_cli.proofs.OneReply.{at_place, not_fewer, not_other}
 
 -- a hand with this number of events has options after them, in each of its readings
@@ -51,38 +50,35 @@ equity_counted hand street plays others play _ traced is board known (in_equity.
 
 -- so a run with this question refuses nothing
 pub legal_options : (request : Request) (hand events : ℕ) (reader : Format) (files : Files) (bytes : List ℕ) (plays : List Play) (play : Play)
-    → (out diag : Sinks) (status : Status) → AsksOfLegal files request (commands.Options hand events) reader bytes plays
+    → (out diag : Sinks) (status : Status) → AsksOfLegal files request (commands.Options reader hand events) bytes plays
     → hand_numbered plays hand ≡ Some play → events ≤ length play.hand.script
     → Ends request files bytes out diag status → RefusesNothing status
 legal_options request hand events reader files bytes plays play out diag status is here enough ends =
-    let by = way (commands.Options hand events) reader in
+    let command = commands.Options reader hand events in
     done_so status
     (ends_so request files bytes out diag status statuses.Done
     (λ answer to.
-    let made = legal_asked (commands.Options hand events) reader bytes is.read.records plays answer tt is.within is.read.say is.read.are
-    (in_way request files bytes by answer is.asks to) in
+    let made = legal_asked command bytes plays answer tt is.within is.read (as_asked request files bytes command answer is.asks to) in
     options_listed hand events plays made.others play answer made.traced here enough made.made)
-    (no_missing files request by is.asks) (no_file_missing files request by is.asks) ends)
+    (no_missing files request command is.asks) (no_file_missing files request command is.asks) ends)
 
 pub legal_equity : (request : Request) (hand street : ℕ) (reader : Format) (files : Files) (bytes : List ℕ) (plays : List Play) (play : Play)
-    → (out diag : Sinks) (status : Status) → AsksOfLegal files request (commands.Equity hand street) reader bytes plays
+    → (out diag : Sinks) (status : Status) → AsksOfLegal files request (commands.Equity reader hand street) bytes plays
     → hand_numbered plays hand ≡ Some play → deals_board play.trace street ≡ true → first_unknown play.trace street ≡ None
     → Ends request files bytes out diag status → RefusesNothing status
 legal_equity request hand street reader files bytes plays play out diag status is here board known ends =
-    let by = way (commands.Equity hand street) reader in
+    let command = commands.Equity reader hand street in
     done_so status
     (ends_so request files bytes out diag status statuses.Done
     (λ answer to.
-    let made = legal_asked (commands.Equity hand street) reader bytes is.read.records plays answer tt is.within is.read.say is.read.are
-    (in_way request files bytes by answer is.asks to) in
+    let made = legal_asked command bytes plays answer tt is.within is.read (as_asked request files bytes command answer is.asks to) in
     equity_counted hand street plays made.others play answer made.traced here board known made.made)
-    (no_missing files request by is.asks) (no_file_missing files request by is.asks) ends)
+    (no_missing files request command is.asks) (no_file_missing files request command is.asks) ends)
 
 pub legal_seen : (request : Request) (game : Game) (seat : Seat) (files : Files) (bytes : List ℕ) (plays : List Play)
-    → (out diag : Sinks) (status : Status) → AsksOfLegal files request (commands.Views seat) (readers.Acpc game) bytes plays
+    → (out diag : Sinks) (status : Status) → AsksOfLegal files request (commands.Views (readers.Acpc game) seat) bytes plays
     → seat.number ≤ game.stacks.seats → length (each_view game seat 0 plays) ≤ most_view_bytes
     → Ends request files bytes out diag status → RefusesNothing status
 legal_seen request game seat files bytes plays out diag status is there short ends =
     done_so status
-    (legal_asks request (commands.Views seat) (readers.Acpc game) files bytes is.read.records plays (done (each_view game seat 0 plays)) out diag status
-    is.asks is.within is.read.say is.read.are (in_views.Seen there short) ends)
+    (legal_asks request (commands.Views (readers.Acpc game) seat) files bytes plays (done (each_view game seat 0 plays)) out diag status is (in_views.Seen there short) ends)

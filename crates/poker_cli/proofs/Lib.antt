@@ -15,6 +15,8 @@ mod GameReplies
 mod OneReply
 mod OneEach
 mod EachHand
+mod ReadAlike
+mod OneComparison
 mod OneAnswer
 mod Headline
 mod Comparisons

@@ -1,5 +1,5 @@
 -- An input has one answer, and legal hands are never refused.
-use Rattle.std.proofs.Common.{◌≡◌, ◌⊎◌, ℕ, ◌+◌, ◌-◌, ◌<◌, ◌≤◌, All, Bool, List, [], ◌∷◌, ◌++◌, length, map, Option, Some, None, IfSome, Ok, refl, sym, subst, ap, ap₂, ◌∙◌, inl, inr, arith}
+use Rattle.std.proofs.Common.{◌≡◌, ◌⊎◌, ℕ, ◌+◌, ◌-◌, ◌<◌, ◌≤◌, All, Bool, true, List, [], ◌∷◌, ◌++◌, length, map, Option, Some, None, IfSome, Ok, refl, sym, subst, ap, ap₂, ◌∙◌, inl, inr, arith}
 use Rattle.std.specs.List.{range_with_len}
 use Rattle.toml.specs.Parse.{parse_document}
 use Rattle.std.specs.Option.{unwrap_or}
@@ -8,9 +8,11 @@ use Rattle.std.proofs.lemmas.Option.{same_Some}
 use Rattle.acpc_game.specs.declared.game.Game.{Game as AnyGame}
 use Rattle.acpc_game.specs.GameFile.{game_said}
 use Rattle.acpc_game.specs.GameView.{game_in}
-use Rattle.command_words.specs.declared.command.Command.{Command}
-use Rattle.command_words.specs.declared.command.Command.TheVariants as commands
-use Rattle.command_words.specs.Words.{Load, Plain, Request, Under, Compare}
+use Rattle.command_words.specs.Command as commands
+use Rattle.command_words.specs.Command.{Command, file_of, input_of, reads_file, reads_input}
+use Rattle.command_words.specs.Words.{Plain, Request, Under}
+use Rattle.command_words.specs.declared.notation.NotationName.{NotationName}
+use Rattle.command_words.specs.declared.notation.PlainNotation.{PlainNotation}
 use Rattle.command_words.specs.declared.command.EachQuestion.{EachQuestion}
 use Rattle.hand_canon.specs.declared.record.Record.{Record}
 use Rattle.hand_canon.specs.declared.writing.Keep.{Keep}
@@ -34,7 +36,7 @@ use Rattle.convert_core.proofs.LawfulNotations.{AreReadSame, all_read_same, no_f
 use Rattle.convert_core.proofs.OneConversion.{all_same, IsReadAlike}
 use Rattle.convert_core.specs.Conversion.{ReadAsPlays}
 use Rattle.convert_core.proofs.OneOutcome.{AllTraced, no_plays, same_refused, same_traces}
-use Rattle.poker_cli.specs.Answer.{IsAnswer, IsAnswerBy, IsAnswerIn, IsAnswerOf, IsReply}
+use Rattle.poker_cli.specs.Answer.{IsAnswer, IsAnswerBeside, IsAnswerBy, IsAnswerFrom, IsAnswerIn, IsAnswerOf, IsReply}
 use Rattle.poker_cli.specs.AnswerParts.{Answer, IsAnswerTo, done, most_input, to_excess, to_fault, to_refusal, to_unspelled}
 use Rattle.poker_cli.specs.Convert.{IsConversion}
 use Rattle.poker_cli.specs.Each.{IsAnswerOfEach}
@@ -49,15 +51,16 @@ use Rattle.poker_cli.specs.Each as each_said
 use Rattle.poker_cli.specs.GameFiles as game_files
 use Rattle.poker_cli.specs.Judge as in_judge
 use Rattle.convert_core.specs.Formats.{AreSameIn, HaveFault, SayRecords, first_lines, first_refusal_in, kept_in, unspelled_in}
-use Rattle.poker_cli.specs.LegalInputs.{PrintsAll}
+use Rattle.poker_cli.specs.LegalInputs.{AsksOfLegal, PrintsAll}
 use Rattle.poker_cli.specs.OneAnswer.{AreOneAnswer}
-use Rattle.poker_cli.specs.Ways.{IsWay, job_under, way}
-use Rattle.poker_cli.specs.Run.{Ends, GivesNone, IsFileMissing, IsGameMissing, NeedsNoInput, OfFile, RefusesNothing, Sinks}
+use Rattle.poker_cli.specs.Asked.{HasFile, IsAsked}
+use Rattle.poker_cli.specs.Load.{IsSummed}
+use Rattle.poker_cli.specs.NamedFormats.{in_formats_under, in_plain_formats}
+use Rattle.poker_cli.specs.Run.{Ends, GivesNone, IsFileMissing, IsGameMissing, IsMissing, NeedsNoInput, OfFile, RefusesNothing, Sinks}
 use Rattle.poker_cli.specs.declared.status.Status.{Status}
 use Rattle.poker_cli.specs.declared.status.Status.TheVariants as statuses
 use Rattle.convert_core.specs.declared.format.Format.{Format}
 use Rattle.convert_core.specs.declared.format.Format.TheVariants as readers
-use Rattle.poker_cli.specs.declared.task.Job.{Job}
 use Rattle.poker_cli.proofs.AlikeGames.{one_game}
 use Rattle.hand_session.specs.Hands.{Hand as SessionHand}
 use Rattle.hand_session.specs.Printed.{session_printed}
@@ -65,6 +68,8 @@ use Rattle.hand_session.specs.Sessions.{session_of}
 use Rattle.chip_ledger.specs.declared.numbers.Seat.{Seat}
 use Rattle.poker_cli.specs.Views.{AreMessages, AreViews}
 use Rattle.poker_cli.proofs.OneReply.{as_many, one_equity, one_options, one_view, same_sessions}
+use Rattle.poker_cli.proofs.OneComparison.{one_compared}
+use Rattle.poker_cli.proofs.ReadAlike.{AllReadSame, AllToldAlike, SayOrFault, one_told, read_the_same, refused_or_played, say_or_fault}
 use Rattle.poker_cli.proofs.OneEach.{one_of_each, same_replay_lines}
 use Rattle.poker_cli.proofs.OneJudgement.{same_judged}
 use Rattle.card_set.proofs.NumbersOfRange.{map_agree}
@@ -128,7 +133,7 @@ same_game (p ∷ ps) (q ∷ qs) traced = ap (λ (trace : Trace). to_first_game (
 
 -- the same answer counts as one
 pub one_itself : (command : Command Format) (answer other : Answer) → answer ≡ other → AreOneAnswer command answer other
-one_itself (commands.Convert readers.Phh keep) answer other same =
+one_itself (commands.Convert from readers.Phh keep) answer other same =
     record {
       status = ap (λ (a : Answer). a.status) same;
       line = ap (λ (a : Answer). a.line) same;
@@ -138,13 +143,13 @@ one_itself command answer other same = same
 
 -- and has one status
 one_status : (command : Command Format) (answer other : Answer) → AreOneAnswer command answer other → answer.status ≡ other.status
-one_status (commands.Convert readers.Phh keep) answer other one = one.status
+one_status (commands.Convert from readers.Phh keep) answer other one = one.status
 one_status command answer other one = ap (λ (a : Answer). a.status) one
 
 -- the same output counts as one
-pub one_output : (to : Format) (keep : Keep) (bytes others : List ℕ) → AreSameIn to bytes others → AreOneAnswer (commands.Convert to keep) (done bytes) (done others)
-one_output readers.Phh keep bytes others same = record { status = refl; line = refl; document = same.first ∙ sym same.second }
-one_output _ keep bytes others same = ap done same
+pub one_output : (from to : Format) (keep : Keep) (bytes others : List ℕ) → AreSameIn to bytes others → AreOneAnswer (commands.Convert from to keep) (done bytes) (done others)
+one_output from readers.Phh keep bytes others same = record { status = refl; line = refl; document = same.first ∙ sym same.second }
+one_output from _ keep bytes others same = ap done same
 
 -- equal plays are refused alike
 refusal_same : (to : Format) (keep : Keep) (ps qs : List Play) → AreReadSame ps qs → first_refusal_in to keep ps ≡ first_refusal_in to keep qs
@@ -154,18 +159,18 @@ refusals_same : (number count : ℕ) (fact other : Unspelled) → refusals.Unspe
     → to_unspelled number fact ≡ to_unspelled count other
 refusals_same number count fact other same = ap₂ to_unspelled (cc) (cc)
 
-one_conversion : (to : Format) (keep : Keep) (ps qs : List Play) (answer other : Answer) → AreReadSame ps qs
-    → IsConversion to keep ps answer → IsConversion to keep qs other → AreOneAnswer (commands.Convert to keep) answer other
-one_conversion to keep ps qs _ _ alike (in_convert.NotSpelled number fact is) (in_convert.NotSpelled count more it) =
-    one_itself (commands.Convert to keep) (to_unspelled number fact) (to_unspelled count more)
+one_conversion : (from to : Format) (keep : Keep) (ps qs : List Play) (answer other : Answer) → AreReadSame ps qs
+    → IsConversion to keep ps answer → IsConversion to keep qs other → AreOneAnswer (commands.Convert from to keep) answer other
+one_conversion from to keep ps qs _ _ alike (in_convert.NotSpelled number fact is) (in_convert.NotSpelled count more it) =
+    one_itself (commands.Convert from to keep) (to_unspelled number fact) (to_unspelled count more)
     (refusals_same number count fact more
     (same_Some (refusals.Unspelled number fact) (refusals.Unspelled count more) (sym is ∙ refusal_same to keep ps qs alike ∙ it)))
-one_conversion to keep ps qs _ _ alike (in_convert.NotSpelled number fact is) (in_convert.Spelled none bytes spell back) =
+one_conversion from to keep ps qs _ _ alike (in_convert.NotSpelled number fact is) (in_convert.Spelled none bytes spell back) =
     let same = sym is ∙ refusal_same to keep ps qs alike ∙ none in absurd (cc (same))
-one_conversion to keep ps qs _ _ alike (in_convert.Spelled none bytes spell back) (in_convert.NotSpelled number fact is) =
+one_conversion from to keep ps qs _ _ alike (in_convert.Spelled none bytes spell back) (in_convert.NotSpelled number fact is) =
     let same = sym is ∙ sym (refusal_same to keep ps qs alike) ∙ none in absurd (cc (same))
-one_conversion to keep ps qs _ _ alike (in_convert.Spelled none bytes spell back) (in_convert.Spelled too others it again) =
-    one_output to keep bytes others ((lawful_of to).one_spelling ps qs bytes others alike.sound alike.others_sound spell it (all_less (kept_in to) ps qs alike.hands))
+one_conversion from to keep ps qs _ _ alike (in_convert.Spelled none bytes spell back) (in_convert.Spelled too others it again) =
+    one_output from to keep bytes others ((lawful_of to).one_spelling ps qs bytes others alike.sound alike.others_sound spell it (all_less (kept_in to) ps qs alike.hands))
 
 -- what a seat received
 one_message : (reader : Format) (seat : Seat) (ps qs : List Play) (answer other : Answer) → AllTraced ps qs → AllAlike (hands_of ps) (hands_of qs)
@@ -174,44 +179,32 @@ one_message (readers.Acpc game) seat ps qs answer other traced alike is it = one
 one_message reader seat ps qs answer other traced alike is it = is ∙ sym it
 
 -- the reply to a command about hands
-one_reply : (command : Command Format) (reader : Format) (ps qs : List Play) (answer other : Answer) → All IsLegalPlay ps → AllTraced ps qs
+one_reply : (command : Command Format) (ps qs : List Play) (answer other : Answer) → All IsLegalPlay ps → AllTraced ps qs
     → AllAlike (hands_of ps) (hands_of qs) → AreReadSame ps qs
-    → IsReply command reader ps answer → IsReply command reader qs other → AreOneAnswer command answer other
-one_reply commands.Check reader ps qs answer other judged traced alike same is it = is ∙ ap done (same_check ps qs traced) ∙ sym it
-one_reply commands.Replay reader ps qs answer other judged traced alike same is it =
+    → IsReply command ps answer → IsReply command qs other → AreOneAnswer command answer other
+one_reply (commands.Check from) ps qs answer other judged traced alike same is it = is ∙ ap done (same_check ps qs traced) ∙ sym it
+one_reply (commands.Replay from) ps qs answer other judged traced alike same is it =
     is ∙ ap done (same_lines replay_lines same_replay_lines 1 ps qs traced) ∙ sym it
-one_reply commands.Report reader ps qs answer other judged traced alike same is it =
+one_reply (commands.Report from) ps qs answer other judged traced alike same is it =
     is ∙ ap (λ (hands : List Hand). done (report_on hands)) (same_hands ps qs judged traced alike) ∙ sym it
-one_reply commands.Session reader ps qs answer other judged traced alike same is it =
+one_reply (commands.Session from) ps qs answer other judged traced alike same is it =
     is ∙ ap (λ (hands : List SessionHand). done (session_printed (session_of hands))) (same_sessions ps qs traced alike) ∙ sym it
-one_reply commands.Game reader ps qs answer other judged traced alike same is it = is.shown ∙ same_game ps qs traced ∙ sym it.shown
-one_reply (commands.Options hand events) reader ps qs answer other judged traced alike same is it = one_options hand events ps qs answer other traced is it
-one_reply (commands.Equity hand street) reader ps qs answer other judged traced alike same is it = one_equity hand street ps qs answer other traced is it
-one_reply (commands.Judge lines) reader ps qs answer other judged traced alike same is it = absurd is
-one_reply (commands.Each question) reader ps qs answer other judged traced alike same is it = absurd is
-one_reply (commands.Views seat) reader ps qs answer other judged traced alike same is it = one_message reader seat ps qs answer other traced alike is it
-one_reply (commands.Convert to keep) reader ps qs answer other judged traced alike same is it = one_conversion to keep ps qs answer other same is it
+one_reply (commands.Game from) ps qs answer other judged traced alike same is it = is.shown ∙ same_game ps qs traced ∙ sym it.shown
+one_reply (commands.Options from hand events) ps qs answer other judged traced alike same is it = one_options hand events ps qs answer other traced is it
+one_reply (commands.Equity from hand street) ps qs answer other judged traced alike same is it = one_equity hand street ps qs answer other traced is it
+one_reply (commands.Judge from lines) ps qs answer other judged traced alike same is it = absurd is
+one_reply (commands.Each from question) ps qs answer other judged traced alike same is it = absurd is
+one_reply (commands.Views from seat) ps qs answer other judged traced alike same is it = one_message from seat ps qs answer other traced alike is it
+one_reply (commands.Convert from to keep) ps qs answer other judged traced alike same is it = one_conversion from to keep ps qs answer other same is it
+one_reply (commands.Compare from with_notation file notes) ps qs answer other judged traced alike same is it =
+    one_compared with_notation notes file ps qs answer other same is it
+one_reply (commands.Load seed hands) ps qs answer other judged traced alike same is it = absurd is
 
 -- the hands of plays are alike if their records are
 alike_hands : (records others : List Record) (ps qs : List Play) → AllAlike records others → ArePlaysOf records ps → ArePlaysOf others qs
     → AllAlike (hands_of ps) (hands_of qs)
 alike_hands records others ps qs alike are is =
     subst (λ (hands : List Record). AllAlike hands (hands_of qs)) (sym are.same) (subst (AllAlike records) (sym is.same) alike)
-
-unfoldable pub AllToldAlike : (FormatFault → Type 0) → Type 0
-AllToldAlike HaveFault =
-    (fault other : FormatFault) (answer too : Answer) → HaveFault fault → HaveFault other → to_fault fault ≡ Some answer → to_fault other ≡ Some too → answer ≡ too
-
-pub AllReadSame : (List Record → Type 0) → Type 0
-AllReadSame Say = (plays others : List Play) → ReadAsPlays Say plays → ReadAsPlays Say others → AreReadSame plays others
-
-pub SayOrFault : (List Record → Type 0) → (FormatFault → Type 0) → Type 0
-SayOrFault Say HaveFault = (records : List Record) (fault : FormatFault) → Say records → HaveFault fault → ⊥
-
-pub refused_or_played : (records others : List Record) (number : ℕ) (why : Refusal) (plays : List Play) → AllAlike records others
-    → IsFirstRefused records number why → ArePlaysOf others plays → ⊥
-refused_or_played records others number why plays alike first are =
-    no_plays records others number why plays (all_same records others alike) first are
 
 -- All that can be made of plays counts as one, by what makes two answers count as one.
 pub record IsOneMade (IsMade : List Play → Answer → Type 0) (One : Answer → Answer → Type 0) : Type 0 where
@@ -275,62 +268,60 @@ same_of_each Say HaveFault question answer other alike shown apart (each_said.Of
 same_of_each Say HaveFault question answer other alike shown apart (each_said.OfEach records say _ is) (each_said.OfEach others says _ it) =
     one_of_each question records others answer other (all_same records others (alike records others say says)) is it
 
--- a fault of bytes is reported in one way
-pub one_told : (reader : Format) (bytes : List ℕ) → AllToldAlike (HaveFault reader bytes)
-unfolding AllToldAlike
-one_told reader bytes fault other answer too have has shown tells =
-    same_Some answer too (sym shown ∙ ap to_fault (one_fault (lawful_of reader) bytes fault other have has) ∙ tells)
-
--- bytes with a fault are not read as records
-pub say_or_fault : (reader : Format) (bytes : List ℕ) → SayOrFault (SayRecords reader bytes) (HaveFault reader bytes)
-unfolding SayOrFault
-say_or_fault reader bytes records fault say have = no_fault (lawful_of reader) bytes records fault say have
-
--- the plays of bytes are the same
-pub read_the_same : (reader : Format) (bytes : List ℕ) → AllReadSame (SayRecords reader bytes)
-unfolding AllReadSame
-read_the_same reader bytes plays others is it = all_read_same (lawful_of reader) bytes plays others is it
-
 -- what is made of hands counts as one
-one_made : (command : Command Format) (reader : Format) → IsOneMade (IsReply command reader) (AreOneAnswer command)
-one_made command reader =
+one_made : (command : Command Format) → IsOneMade (IsReply command) (AreOneAnswer command)
+one_made command =
     record {
       itself = one_itself command;
-      made = λ ps qs answer other judged traced alike same is it. one_reply command reader ps qs answer other judged traced alike same is it;
+      made = λ ps qs answer other judged traced alike same is it. one_reply command ps qs answer other judged traced alike same is it;
     }
 
--- neither a verdict is asked for, nor an answer of each hand by itself
+-- the answer is made of the plays of an input: neither a verdict is asked for, nor an answer of each
+-- hand by itself, nor are hands generated
 abbrev pub IsOfPlays : Command Format → Type 0
-IsOfPlays (commands.Judge lines) = ⊥
-IsOfPlays (commands.Each question) = ⊥
+IsOfPlays (commands.Judge from lines) = ⊥
+IsOfPlays (commands.Each from question) = ⊥
+IsOfPlays (commands.Load seed hands) = ⊥
 IsOfPlays command = Unit {0}
 
 -- so the answer is made of plays
-of_plays : (command : Command Format) (reader : Format) (Say : List Record → Type 0) (HaveFault : FormatFault → Type 0) (lines : List ℕ) (answer : Answer)
-    → IsOfPlays command → IsAnswerOf command reader Say HaveFault lines answer → IsAnswerTo Say HaveFault (IsReply command reader) answer
-of_plays (commands.Judge asked) reader Say HaveFault lines answer of is = absurd of
-of_plays (commands.Each question) reader Say HaveFault lines answer of is = absurd of
-of_plays command reader Say HaveFault lines answer of is = is
+of_plays : (command : Command Format) (Say : List Record → Type 0) (HaveFault : FormatFault → Type 0) (lines : List ℕ) (answer : Answer)
+    → IsOfPlays command → IsAnswerOf command Say HaveFault lines answer → IsAnswerTo Say HaveFault (IsReply command) answer
+of_plays (commands.Judge from asked) Say HaveFault lines answer of is = absurd of
+of_plays (commands.Each from question) Say HaveFault lines answer of is = absurd of
+of_plays (commands.Load seed hands) Say HaveFault lines answer of is = absurd of
+of_plays command Say HaveFault lines answer of is = is
 
 one_read : (command : Command Format) (reader : Format) (bytes : List ℕ) (answer other : Answer)
-    → IsAnswerOf command reader (SayRecords reader bytes) (HaveFault reader bytes) (first_lines reader bytes) answer
-    → IsAnswerOf command reader (SayRecords reader bytes) (HaveFault reader bytes) (first_lines reader bytes) other → AreOneAnswer command answer other
-one_read (commands.Each question) reader bytes answer other is it =
+    → IsAnswerOf command (SayRecords reader bytes) (HaveFault reader bytes) (first_lines reader bytes) answer
+    → IsAnswerOf command (SayRecords reader bytes) (HaveFault reader bytes) (first_lines reader bytes) other → AreOneAnswer command answer other
+one_read (commands.Each from question) reader bytes answer other is it =
     same_of_each (SayRecords reader bytes) (HaveFault reader bytes) question answer other
     ((lawful_of reader).one_reading bytes) (one_told reader bytes) (say_or_fault reader bytes) is it
-one_read (commands.Judge asked) reader bytes answer other is it =
+one_read (commands.Judge from asked) reader bytes answer other is it =
     same_judgement (SayRecords reader bytes) (HaveFault reader bytes) (if_asked asked (first_lines reader bytes)) answer other
     ((lawful_of reader).one_reading bytes) (one_told reader bytes) (say_or_fault reader bytes) is it
 one_read command reader bytes answer other is it =
-    same_answer (SayRecords reader bytes) (HaveFault reader bytes) (IsReply command reader) (AreOneAnswer command) answer other
-    (one_made command reader) ((lawful_of reader).one_reading bytes) (read_the_same reader bytes) (one_told reader bytes) (say_or_fault reader bytes) is it
+    same_answer (SayRecords reader bytes) (HaveFault reader bytes) (IsReply command) (AreOneAnswer command) answer other
+    (one_made command) ((lawful_of reader).one_reading bytes) (read_the_same reader bytes) (one_told reader bytes) (say_or_fault reader bytes) is it
 
-pub one_answer : (command : Command Format) (reader : Format) (bytes : List ℕ) (answer other : Answer)
-    → IsAnswer command reader bytes answer → IsAnswer command reader bytes other → AreOneAnswer command answer other
-one_answer command reader bytes _ _ (answers.TooLong many) (answers.TooLong too) = one_itself command to_excess to_excess refl
-one_answer command reader bytes _ other (answers.TooLong many) (answers.Read few _ is) = absurd (omega (arith, many, few))
-one_answer command reader bytes answer _ (answers.Read few _ is) (answers.TooLong many) = absurd (omega (arith, many, few))
-one_answer command reader bytes answer other (answers.Read few _ is) (answers.Read less _ it) = one_read command reader bytes answer other is it
+pub one_answer_from : (command : Command Format) (reader : Format) (bytes : List ℕ) (answer other : Answer)
+    → IsAnswerFrom command reader bytes answer → IsAnswerFrom command reader bytes other → AreOneAnswer command answer other
+one_answer_from command reader bytes _ _ (answers.TooLong many) (answers.TooLong too) = one_itself command to_excess to_excess refl
+one_answer_from command reader bytes _ other (answers.TooLong many) (answers.Read few _ is) = absurd (omega (arith, many, few))
+one_answer_from command reader bytes answer _ (answers.Read few _ is) (answers.TooLong many) = absurd (omega (arith, many, few))
+one_answer_from command reader bytes answer other (answers.Read few _ is) (answers.Read less _ it) = one_read command reader bytes answer other is it
+
+-- the notation of the input is that of the command, if it reads one
+one_answer_by : (input : Option Format) (command : Command Format) (bytes : List ℕ) (answer other : Answer) → reads_input command ≡ true
+    → IsAnswerBy input command bytes answer → IsAnswerBy input command bytes other → AreOneAnswer command answer other
+one_answer_by (Some reader) command bytes answer other reads is it = one_answer_from command reader bytes answer other is it
+one_answer_by None (commands.Load seed hands) bytes answer other reads is it = cc
+one_answer_by None command bytes answer other reads is it = absurd is
+
+pub one_answer : (command : Command Format) (bytes : List ℕ) (answer other : Answer) → reads_input command ≡ true
+    → IsAnswer command bytes answer → IsAnswer command bytes other → AreOneAnswer command answer other
+one_answer command bytes answer other reads is it = one_answer_by (input_of command) command bytes answer other reads is it
 
 -- what the answer is made of, if all hands of the input are legal and agree with what is stated of
 -- them
@@ -361,42 +352,56 @@ made_of Say HaveFault IsMade records plays answer alike same apart say are (part
       made = makes;
     }
 
-pub legal_asked : (command : Command Format) (reader : Format) (bytes : List ℕ) (records : List Record) (plays : List Play) (answer : Answer) → IsOfPlays command
-    → length bytes ≤ most_input → SayRecords reader bytes records → ArePlaysOf records plays → IsAnswer command reader bytes answer
-    → IsMadeAlike (IsReply command reader) plays answer
-legal_asked command reader bytes records plays _ of few is are (answers.TooLong many) = absurd (omega (arith, many, few))
-legal_asked command reader bytes records plays answer of few is are (answers.Read less _ to) =
-    made_of (SayRecords reader bytes) (HaveFault reader bytes) (IsReply command reader) records plays answer ((lawful_of reader).one_reading bytes) (read_the_same reader bytes)
-    (say_or_fault reader bytes) is are
-    (of_plays command reader (SayRecords reader bytes) (HaveFault reader bytes) (first_lines reader bytes) answer of to)
+asked_from : (command : Command Format) (reader : Format) (bytes : List ℕ) (plays : List Play) (answer : Answer) → IsOfPlays command
+    → length bytes ≤ most_input → ReadAsPlays (SayRecords reader bytes) plays → IsAnswerFrom command reader bytes answer
+    → IsMadeAlike (IsReply command) plays answer
+asked_from command reader bytes plays _ of few read (answers.TooLong many) = absurd (omega (arith, many, few))
+asked_from command reader bytes plays answer of few read (answers.Read less _ to) =
+    made_of (SayRecords reader bytes) (HaveFault reader bytes) (IsReply command) read.records plays answer ((lawful_of reader).one_reading bytes) (read_the_same reader bytes)
+    (say_or_fault reader bytes) read.say read.are
+    (of_plays command (SayRecords reader bytes) (HaveFault reader bytes) (first_lines reader bytes) answer of to)
+
+asked_by : (input : Option Format) (command : Command Format) (bytes : List ℕ) (plays : List Play) (answer : Answer) → IsOfPlays command
+    → length bytes ≤ most_input → IfSome input (λ reader. ReadAsPlays (SayRecords reader bytes) plays) → IsAnswerBy input command bytes answer
+    → IsMadeAlike (IsReply command) plays answer
+asked_by (Some reader) command bytes plays answer of few read to = asked_from command reader bytes plays answer of few read to
+asked_by None (commands.Load seed hands) bytes plays answer of few read to = absurd of
+asked_by None command bytes plays answer of few read to = absurd to
+
+pub legal_asked : (command : Command Format) (bytes : List ℕ) (plays : List Play) (answer : Answer) → IsOfPlays command
+    → length bytes ≤ most_input → IfSome (input_of command) (λ reader. ReadAsPlays (SayRecords reader bytes) plays) → IsAnswer command bytes answer
+    → IsMadeAlike (IsReply command) plays answer
+legal_asked command bytes plays answer of few read to = asked_by (input_of command) command bytes plays answer of few read to
 
 -- so its status is known
-shown_status : (command : Command Format) (reader : Format) (plays : List Play) (answer : Answer) → PrintsAll command
-    → IsMadeAlike (IsReply command reader) plays answer → answer.status ≡ statuses.Done
-shown_status commands.Check reader plays answer prints is = ap (λ (a : Answer). a.status) is.made
-shown_status commands.Replay reader plays answer prints is = ap (λ (a : Answer). a.status) is.made
-shown_status commands.Report reader plays answer prints is = ap (λ (a : Answer). a.status) is.made
-shown_status commands.Session reader plays answer prints is = ap (λ (a : Answer). a.status) is.made
-shown_status command reader plays answer prints is = absurd prints
+shown_status : (command : Command Format) (plays : List Play) (answer : Answer) → PrintsAll command
+    → IsMadeAlike (IsReply command) plays answer → answer.status ≡ statuses.Done
+shown_status (commands.Check from) plays answer prints is = ap (λ (a : Answer). a.status) is.made
+shown_status (commands.Replay from) plays answer prints is = ap (λ (a : Answer). a.status) is.made
+shown_status (commands.Report from) plays answer prints is = ap (λ (a : Answer). a.status) is.made
+shown_status (commands.Session from) plays answer prints is = ap (λ (a : Answer). a.status) is.made
+shown_status command plays answer prints is = absurd prints
 
 shown_of_plays : (command : Command Format) → PrintsAll command → IsOfPlays command
-shown_of_plays (commands.Judge lines) prints = prints
-shown_of_plays (commands.Each question) prints = prints
+shown_of_plays (commands.Judge from lines) prints = prints
+shown_of_plays (commands.Each from question) prints = prints
+shown_of_plays (commands.Load seed hands) prints = prints
 shown_of_plays command prints = tt
 
 -- what is made of plays is neither a verdict nor an answer of each hand by itself
-reply_of_plays : (command : Command Format) (reader : Format) (plays : List Play) (reply : Answer) → IsReply command reader plays reply → IsOfPlays command
-reply_of_plays (commands.Judge lines) reader plays reply is = is
-reply_of_plays (commands.Each question) reader plays reply is = is
-reply_of_plays command reader plays reply is = tt
+reply_of_plays : (command : Command Format) (plays : List Play) (reply : Answer) → IsReply command plays reply → IsOfPlays command
+reply_of_plays (commands.Judge from lines) plays reply is = is
+reply_of_plays (commands.Each from question) plays reply is = is
+reply_of_plays (commands.Load seed hands) plays reply is = is
+reply_of_plays command plays reply is = tt
 
-asked_status : (command : Command Format) (reader : Format) (plays : List Play) (answer reply : Answer) → IsReply command reader plays reply
-    → IsMadeAlike (IsReply command reader) plays answer → answer.status ≡ reply.status
-asked_status command reader plays answer reply to is =
-    sym (one_status command reply answer (one_reply command reader plays is.others reply answer is.judged is.traced is.hands is.same to is.made))
+asked_status : (command : Command Format) (plays : List Play) (answer reply : Answer) → IsReply command plays reply
+    → IsMadeAlike (IsReply command) plays answer → answer.status ≡ reply.status
+asked_status command plays answer reply to is =
+    sym (one_status command reply answer (one_reply command plays is.others reply answer is.judged is.traced is.hands is.same to is.made))
 
 judged_status : (asked : Bool) (reader : Format) (bytes : List ℕ) (records : List Record) (answer : Answer) → length bytes ≤ most_input
-    → SayRecords reader bytes records → IsAnswer (commands.Judge asked) reader bytes answer → answer.status ≡ statuses.Done
+    → SayRecords reader bytes records → IsAnswer (commands.Judge reader asked) bytes answer → answer.status ≡ statuses.Done
 judged_status asked reader bytes records _ few say (answers.TooLong many) = absurd (omega (arith, many, few))
 judged_status asked reader bytes records answer few say (answers.Read less _ (in_judge.NotJudged fault have _ is)) = absurd (no_fault (lawful_of reader) bytes records fault say have)
 judged_status asked reader bytes records _ few say (answers.Read less _ (in_judge.Judged others says verdicts are)) = refl
@@ -439,29 +444,56 @@ games_same file game other gives too =
     let it = too.says in
     one_game game other (cc (says, it))
 
--- a request is answered in one way
-pub in_way : (request : Request) (files : Files) (bytes : List ℕ) (by : Job) (answer : Answer) → IsWay files request by
-    → IsAnswerIn request files bytes answer → IsAnswerBy by bytes answer
-in_way (Load seed hands) files bytes by answer found is = absurd found
-in_way (Plain from command) files bytes by answer found is = subst (λ (w : Job). IsAnswerBy w bytes answer) (sym found) is
-in_way (Under name logs) files bytes by answer found (answers.NoGameError _ lacks) = absurd (no_game files.game found.game answer found.gives lacks)
-in_way (Under name logs) files bytes by answer found (answers.OfInput game gives _ to) =
-    subst (λ (w : Job). IsAnswerBy w bytes answer)
-    (ap (λ (g : AnyGame). job_under g logs) (games_same files.game game found.game gives found.gives) ∙ sym found.same) to
-in_way (Compare sides file notes) files bytes by answer found is = absurd found
+-- a command has one other file
+one_file : (file : Option (List ℕ)) (named asked other : Command Format) → HasFile file named asked → HasFile file named other → asked ≡ other
+one_file file (commands.Compare from to name notes) asked other has it =
+    has.1.1.1
+    ∙ ap (λ (text : List ℕ). commands.Compare from to text notes) (same_Some has.0 it.0 (sym has.1.0 ∙ it.1.0))
+    ∙ sym it.1.1.1
+one_file file named asked other has it = has ∙ sym it
 
--- a request that is read and handled in a way misses no game file and no other file
-pub no_missing : (files : Files) (request : Request) (by : Job) → IsWay files request by → IsGameMissing request files → ⊥
-no_missing files (Load seed hands) by found missing = missing
-no_missing files (Plain from command) by found missing = missing
-no_missing files (Under name logs) by found missing = let there = found.gives.there in cc (there, missing)
-no_missing files (Compare sides file notes) by found missing = found
+-- and one that is within the limit
+not_too_long : (file : Option (List ℕ)) (named asked : Command Format) (text : List ℕ) → HasFile file named asked → reads_file named ≡ true → file ≡ Some text
+    → most_input < length text → ⊥
+not_too_long file (commands.Compare from to name notes) asked text has reads is many =
+    let same : has.0 ≡ text = same_Some has.0 text (sym has.1.0 ∙ is) in
+    let few : length text ≤ most_input = subst (λ (t : List ℕ). length t ≤ most_input) same has.1.1.0 in
+    absurd (omega (arith, few, many))
+not_too_long file named asked text has reads is many = cc
 
-pub no_file_missing : (files : Files) (request : Request) (by : Job) → IsWay files request by → IsFileMissing request files → ⊥
-no_file_missing files (Load seed hands) by found missing = missing
-no_file_missing files (Plain from command) by found missing = missing
-no_file_missing files (Under name logs) by found missing = missing
-no_file_missing files (Compare sides file notes) by found missing = found
+-- a command is answered in one way
+beside : (file : Option (List ℕ)) (named asked : Command Format) (bytes : List ℕ) (answer : Answer) → HasFile file named asked
+    → IsAnswerBeside named file bytes answer → IsAnswer asked bytes answer
+beside file named asked bytes _ has (answers.FileTooLong reads text is many) = absurd (not_too_long file named asked text has reads is many)
+beside file named asked bytes answer has (answers.Answered other it _ to) =
+    subst (λ (c : Command Format). IsAnswer c bytes answer) (one_file file named other asked it has) to
+
+pub as_asked : (request : Request) (files : Files) (bytes : List ℕ) (asked : Command Format) (answer : Answer) → IsAsked files request asked
+    → IsAnswerIn request files bytes answer → IsAnswer asked bytes answer
+as_asked (Plain command) files bytes asked answer found is = beside files.other (in_plain_formats command) asked bytes answer found is
+as_asked (Under name command) files bytes asked answer found (answers.NoGame _ lacks) = absurd (no_game files.game found.game answer found.gives lacks)
+as_asked (Under name command) files bytes asked answer found (answers.InGame game gives _ to) =
+    beside files.other (in_formats_under game command) asked bytes answer
+    (subst (λ (g : AnyGame). HasFile files.other (in_formats_under g command) asked) (games_same files.game found.game game found.gives gives) found.has) to
+
+-- a request for a command misses no game file and no other file
+plain_there : (file : Option (List ℕ)) (command : Command PlainNotation) (asked : Command Format) → HasFile file (in_plain_formats command) asked
+    → IsMissing (file_of command) file → ⊥
+plain_there file (commands.Compare from to name notes) asked has missing = let there = has.1.0 in cc (there, missing)
+plain_there file command asked has missing = missing
+
+under_there : (game : AnyGame) (file : Option (List ℕ)) (command : Command NotationName) (asked : Command Format) → HasFile file (in_formats_under game command) asked
+    → IsMissing (file_of command) file → ⊥
+under_there game file (commands.Compare from to name notes) asked has missing = let there = has.1.0 in cc (there, missing)
+under_there game file command asked has missing = missing
+
+pub no_missing : (files : Files) (request : Request) (asked : Command Format) → IsAsked files request asked → IsGameMissing request files → ⊥
+no_missing files (Plain command) asked found missing = missing
+no_missing files (Under name command) asked found missing = let there = found.gives.there in cc (there, missing)
+
+pub no_file_missing : (files : Files) (request : Request) (asked : Command Format) → IsAsked files request asked → IsFileMissing request files → ⊥
+no_file_missing files (Plain command) asked found missing = plain_there files.other command asked found missing.1
+no_file_missing files (Under name command) asked found missing = under_there found.game files.other command asked found.has missing.1
 
 -- a run whose answers all have one status, and that misses no game, ends with it, or a device
 -- failed, or memory ran out
@@ -490,74 +522,76 @@ done_so status (inl is) = is
 done_so status (inr same) = subst RefusesNothing same tt
 
 -- so a run on such an input refuses nothing
-pub legal_shown : (request : Request) (command : Command Format) (reader : Format) (files : Files) (bytes : List ℕ) (records : List Record) (plays : List Play)
-    → (out diag : Sinks) (status : Status) → PrintsAll command → IsWay files request (way command reader)
-    → length bytes ≤ most_input → SayRecords reader bytes records → ArePlaysOf records plays
+pub legal_shown : (request : Request) (command : Command Format) (files : Files) (bytes : List ℕ) (plays : List Play)
+    → (out diag : Sinks) (status : Status) → PrintsAll command → AsksOfLegal files request command bytes plays
     → Ends request files bytes out diag status → RefusesNothing status
-legal_shown request command reader files bytes records plays out diag status prints found few is are ends =
-    let by = way command reader in
+legal_shown request command files bytes plays out diag status prints is ends =
     done_so status
     (ends_so request files bytes out diag status statuses.Done
-    (λ answer to. shown_status command reader plays answer prints
-    (legal_asked command reader bytes records plays answer (shown_of_plays command prints) few is are (in_way request files bytes by answer found to)))
-    (no_missing files request by found) (no_file_missing files request by found) ends)
+    (λ answer to. shown_status command plays answer prints
+    (legal_asked command bytes plays answer (shown_of_plays command prints) is.within is.read (as_asked request files bytes command answer is.asks to)))
+    (no_missing files request command is.asks) (no_file_missing files request command is.asks) ends)
 
 -- a command about the hands is answered as it is about their plays
-pub legal_asks : (request : Request) (command : Command Format) (reader : Format) (files : Files) (bytes : List ℕ) (records : List Record) (plays : List Play) (reply : Answer)
-    → (out diag : Sinks) (status : Status) → IsWay files request (way command reader)
-    → length bytes ≤ most_input → SayRecords reader bytes records → ArePlaysOf records plays → IsReply command reader plays reply
+pub legal_asks : (request : Request) (command : Command Format) (files : Files) (bytes : List ℕ) (plays : List Play) (reply : Answer)
+    → (out diag : Sinks) (status : Status) → AsksOfLegal files request command bytes plays → IsReply command plays reply
     → Ends request files bytes out diag status → RefusesNothing status ⊎ (reply.status ≡ status)
-legal_asks request command reader files bytes records plays reply out diag status found few is are to ends =
-    let by = way command reader in
+legal_asks request command files bytes plays reply out diag status is to ends =
     ends_so request files bytes out diag status reply.status
-    (λ answer given. asked_status command reader plays answer reply to
-    (legal_asked command reader bytes records plays answer (reply_of_plays command reader plays reply to) few is are (in_way request files bytes by answer found given)))
-    (no_missing files request by found) (no_file_missing files request by found) ends
+    (λ answer given. asked_status command plays answer reply to
+    (legal_asked command bytes plays answer (reply_of_plays command plays reply to) is.within is.read (as_asked request files bytes command answer is.asks given)))
+    (no_missing files request command is.asks) (no_file_missing files request command is.asks) ends
 
 -- hands are judged, including refused ones
 pub all_judged : (request : Request) (asked : Bool) (reader : Format) (files : Files) (bytes : List ℕ) (records : List Record)
-    → (out diag : Sinks) (status : Status) → IsWay files request (way (commands.Judge asked) reader)
+    → (out diag : Sinks) (status : Status) → IsAsked files request (commands.Judge reader asked)
     → length bytes ≤ most_input → SayRecords reader bytes records
     → Ends request files bytes out diag status → RefusesNothing status
 all_judged request asked reader files bytes records out diag status found few is ends =
-    let by = way (commands.Judge asked) reader in
+    let command = commands.Judge reader asked in
     done_so status
     (ends_so request files bytes out diag status statuses.Done
-    (λ answer to. judged_status asked reader bytes records answer few is (in_way request files bytes by answer found to))
-    (no_missing files request by found) (no_file_missing files request by found) ends)
+    (λ answer to. judged_status asked reader bytes records answer few is (as_asked request files bytes command answer found to))
+    (no_missing files request command found) (no_file_missing files request command found) ends)
 
 -- hands whose facts can all be written are converted
-pub legal_in_way : (request : Request) (reader target : Format) (keep : Keep) (files : Files) (bytes : List ℕ) (records : List Record) (plays : List Play)
-    → (out diag : Sinks) (status : Status) → IsWay files request (way (commands.Convert target keep) reader)
-    → length bytes ≤ most_input → SayRecords reader bytes records → ArePlaysOf records plays
+pub legal_in_way : (request : Request) (reader target : Format) (keep : Keep) (files : Files) (bytes : List ℕ) (plays : List Play)
+    → (out diag : Sinks) (status : Status) → AsksOfLegal files request (commands.Convert reader target keep) bytes plays
     → first_refusal_in target keep plays ≡ None
     → Ends request files bytes out diag status → RefusesNothing status
-legal_in_way request reader target keep files bytes records plays out diag status found few is are none ends =
-    let by = way (commands.Convert target keep) reader in
+legal_in_way request reader target keep files bytes plays out diag status is none ends =
+    let command = commands.Convert reader target keep in
     done_so status
     (ends_so request files bytes out diag status statuses.Done
     (λ answer given. converted_status target keep plays answer none
-    (legal_asked (commands.Convert target keep) reader bytes records plays answer tt few is are (in_way request files bytes by answer found given)))
-    (no_missing files request by found) (no_file_missing files request by found) ends)
+    (legal_asked command bytes plays answer tt is.within is.read (as_asked request files bytes command answer is.asks given)))
+    (no_missing files request command is.asks) (no_file_missing files request command is.asks) ends)
 
 -- the answer to generated hands is done, and a run on them needs no input
-load_done : (seed hands : ℕ) (files : Files) (bytes : List ℕ) (answer : Answer) → IsAnswerIn (Load seed hands) files bytes answer → answer.status ≡ statuses.Done
-load_done seed hands files bytes answer is = ap (λ (a : Answer). a.status) is.shown
+made_done : (seed hands : ℕ) (file : Option (List ℕ)) (bytes : List ℕ) (answer : Answer) → IsAnswerBeside (commands.Load seed hands) file bytes answer
+    → answer.status ≡ statuses.Done
+made_done seed hands file bytes _ (answers.FileTooLong reads text is many) = cc
+made_done seed hands file bytes answer (answers.Answered asked has _ to) =
+    let made : IsSummed seed hands answer = subst (λ (c : Command Format). IsAnswer c bytes answer) has to in
+    ap (λ (a : Answer). a.status) made.shown
 
-not_done : (seed hands : ℕ) (files : Files) (bytes : List ℕ) (answer : Answer) (status : Status) → IsAnswerIn (Load seed hands) files bytes answer
+load_done : (seed hands : ℕ) (files : Files) (bytes : List ℕ) (answer : Answer) → IsAnswerIn (Plain (commands.Load seed hands)) files bytes answer → answer.status ≡ statuses.Done
+load_done seed hands files bytes answer is = made_done seed hands files.other bytes answer is
+
+not_done : (seed hands : ℕ) (files : Files) (bytes : List ℕ) (answer : Answer) (status : Status) → IsAnswerIn (Plain (commands.Load seed hands)) files bytes answer
     → answer.status ≡ status → NeedsNoInput status
 not_done seed hands files bytes answer status to same = subst NeedsNoInput (sym (load_done seed hands files bytes answer to) ∙ same) tt
 
 pub legal_load : (seed hands : ℕ) (files : Files) (bytes : List ℕ) (out diag : Sinks) (status : Status)
-    → Ends (Load seed hands) files bytes out diag status → NeedsNoInput status
+    → Ends (Plain (commands.Load seed hands)) files bytes out diag status → NeedsNoInput status
 legal_load seed hands files bytes out diag statuses.Done ends = tt
 legal_load seed hands files bytes out diag statuses.WriteFault ends = tt
 legal_load seed hands files bytes out diag statuses.Memory ends = ends
 legal_load seed hands files bytes out diag statuses.Usage ends = ends
-legal_load seed hands files bytes out diag statuses.ReadFault ends = ends.0
-legal_load seed hands files bytes out diag statuses.ShelfFault ends = ends
+legal_load seed hands files bytes out diag statuses.ReadFault ends = let reads = ends.0 in cc (reads)
+legal_load seed hands files bytes out diag statuses.ShelfFault ends = cc (ends)
 legal_load seed hands files bytes out diag statuses.GameMissing ends = ends
-legal_load seed hands files bytes out diag statuses.FileMissing ends = ends
+legal_load seed hands files bytes out diag statuses.FileMissing ends = ends.1
 legal_load seed hands files bytes out diag statuses.Refused ends = not_done seed hands files bytes ends.answer statuses.Refused ends.to_input ends.ends
 legal_load seed hands files bytes out diag statuses.BadInput ends = not_done seed hands files bytes ends.answer statuses.BadInput ends.to_input ends.ends
 legal_load seed hands files bytes out diag statuses.Limit ends = not_done seed hands files bytes ends.answer statuses.Limit ends.to_input ends.ends

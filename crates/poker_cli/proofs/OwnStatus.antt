@@ -4,6 +4,8 @@ use Rattle.acpc_game.specs.GameFile.{GameSaid}
 use Rattle.acpc_game.specs.declared.game.Game.{Game}
 use Rattle.acpc_format.specs.GameOf.{game_of}
 use Rattle.chip_ledger.specs.declared.numbers.Seat.{Seat}
+use Rattle.command_words.specs.Command as commands
+use Rattle.command_words.specs.Command.{Command, input_of}
 use Rattle.command_words.specs.declared.command.EachQuestion.{EachQuestion}
 use Rattle.command_words.specs.declared.command.EachQuestion.TheVariants as of_each
 use Rattle.convert_core.specs.Faults.{excess_of}
@@ -12,7 +14,7 @@ use Rattle.first_fault.specs.declared.limits.Quantity.{Quantity}
 use Rattle.hand_canon.specs.declared.record.Record.{Record}
 use Rattle.hand_canon.specs.declared.trace.Play.{Play}
 use Rattle.hand_canon.specs.declared.writing.Unspelled.{Unspelled}
-use Rattle.poker_cli.specs.Answer.{IsAnswer, IsAnswerBy, IsAnswerOf, IsReply}
+use Rattle.poker_cli.specs.Answer.{IsAnswer, IsAnswerBy, IsAnswerFrom, IsAnswerOf, IsReply}
 use Rattle.poker_cli.specs.AnswerParts.{Answer, IsAnswerTo, to_fault, to_unread}
 use Rattle.poker_cli.specs.Convert.{IsWritten}
 use Rattle.poker_cli.specs.Game.{to_first_game, to_game}
@@ -22,7 +24,7 @@ use Rattle.poker_cli.specs.AnswerParts as parts
 use Rattle.poker_cli.specs.Compare as in_compare
 use Rattle.poker_cli.specs.Convert as in_convert
 use Rattle.poker_cli.specs.Judge as in_judge
-use Rattle.poker_cli.specs.Compare.{DifferentHand, IsComparedWith, IsComparison, compared_by, first_different, to_other_count, to_same}
+use Rattle.poker_cli.specs.Compare.{DifferentHand, IsComparedWith, compared_by, first_different, to_other_count, to_same}
 use Rattle.poker_cli.specs.Each as each
 use Rattle.poker_cli.specs.Each.{AreReplayedEach, IsAnswerOfEach, IsEveryPoint, IsPoint, IsReplyOfEach}
 use Rattle.poker_cli.specs.Equity.{IsEquityAt}
@@ -35,15 +37,11 @@ use Rattle.poker_cli.specs.Judge.{if_asked}
 use Rattle.poker_cli.specs.Run.{IsOfInput, IsOwn, OfBytes, ReadsNothing}
 use Rattle.poker_cli.specs.FaultAnswers.{answer_said}
 use Rattle.poker_cli.specs.declared.answer.Answer as made
-use Rattle.poker_cli.specs.declared.compare.Comparison.{Comparison}
 use Rattle.poker_cli.specs.declared.no_answer.NoAnswerError.{NoAnswerError}
 use Rattle.poker_cli.specs.declared.status.Status.{Status}
 use Rattle.poker_cli.specs.declared.status.Status.TheVariants as statuses
 use Rattle.convert_core.specs.declared.format.Format.{Format}
 use Rattle.convert_core.specs.declared.format.Format.TheVariants as readers
-use Rattle.command_words.specs.declared.command.Command.{Command}
-use Rattle.command_words.specs.declared.command.Command.TheVariants as commands
-use Rattle.poker_cli.specs.declared.task.Job.{Job}
 use Rattle.poker_cli.proofs.Answering.{is_to_unread}
 
 -- a status of an answer to what was read of the input is not that of a fault, and comes after the
@@ -108,15 +106,27 @@ message_own : (reader : Format) (seat : Seat) (plays : List Play) (answer : Answ
 message_own (readers.Acpc game) seat plays answer is = views_own game seat plays answer is
 message_own reader seat plays answer is = same_own answer _ is tt
 
-reply_own : (command : Command Format) (reader : Format) (plays : List Play) (answer : Answer) → IsReply command reader plays answer → IsOfInput answer.status
-reply_own commands.Game reader plays answer is = same_own answer _ is.shown (first_game_own plays)
-reply_own (commands.Options hand events) reader plays answer is = options_own hand events plays answer is
-reply_own (commands.Equity hand street) reader plays answer is = equity_own hand street plays answer is
-reply_own (commands.Judge lines) reader plays answer is = absurd is
-reply_own (commands.Each question) reader plays answer is = absurd is
-reply_own (commands.Views seat) reader plays answer is = message_own reader seat plays answer is
-reply_own (commands.Convert to keep) reader plays answer is = written_own _ _ _ plays answer is
-reply_own command reader plays answer is = same_own answer _ is tt
+both_own : (found : Option DifferentHand) (hands others : ℕ) → IsOfInput (compared_by found hands others).status
+both_own (Some differs) hands others = tt
+both_own None hands others =
+    elim (hands == others) as (λ same. IsOfInput (if same then to_same hands else to_other_count hands others).status) [ true ↦ tt | false ↦ tt ]
+
+beside_own : (other : Format) (notes : Bool) (file : List ℕ) (plays : List Play) (answer : Answer) → IsComparedWith other notes file plays answer → IsOfInput answer.status
+beside_own other notes file plays _ (in_compare.OtherUnread fault have answer shown) = fault_own fault answer shown
+beside_own other notes file plays _ (in_compare.OtherRefused number why is) = tt
+beside_own other notes file plays _ (in_compare.OtherPlayed others read) = both_own (first_different notes 0 plays others) (length plays) (length others)
+
+reply_own : (command : Command Format) (plays : List Play) (answer : Answer) → IsReply command plays answer → IsOfInput answer.status
+reply_own (commands.Game from) plays answer is = same_own answer _ is.shown (first_game_own plays)
+reply_own (commands.Options from hand events) plays answer is = options_own hand events plays answer is
+reply_own (commands.Equity from hand street) plays answer is = equity_own hand street plays answer is
+reply_own (commands.Judge from lines) plays answer is = absurd is
+reply_own (commands.Each from question) plays answer is = absurd is
+reply_own (commands.Load seed hands) plays answer is = absurd is
+reply_own (commands.Views from seat) plays answer is = message_own from seat plays answer is
+reply_own (commands.Convert from to keep) plays answer is = written_own _ _ _ plays answer is
+reply_own (commands.Compare from other file notes) plays answer is = beside_own other notes file plays answer is
+reply_own command plays answer is = same_own answer _ is tt
 
 -- ---- the answer to bytes
 
@@ -152,31 +162,24 @@ each_own : (Say : List Record → Type 0) (HaveFault : FormatFault → Type 0) (
 each_own Say HaveFault question answer (each.NotRead fault have _ shown) = fault_own fault answer shown
 each_own Say HaveFault question answer (each.OfEach records say _ is) = of_each_own question records answer is
 
-command_own : (command : Command Format) (reader : Format) (Say : List Record → Type 0) (HaveFault : FormatFault → Type 0) (lines : List ℕ) (answer : Answer)
-    → IsAnswerOf command reader Say HaveFault lines answer → IsOfInput answer.status
-command_own (commands.Judge asked) reader Say HaveFault lines answer is = judged_own Say HaveFault (if_asked asked lines) answer is
-command_own (commands.Each question) reader Say HaveFault lines answer is = each_own Say HaveFault question answer is
-command_own command reader Say HaveFault lines answer is = made_own Say HaveFault (IsReply command reader) (reply_own command reader) answer is
+command_own : (command : Command Format) (Say : List Record → Type 0) (HaveFault : FormatFault → Type 0) (lines : List ℕ) (answer : Answer)
+    → IsAnswerOf command Say HaveFault lines answer → IsOfInput answer.status
+command_own (commands.Judge from asked) Say HaveFault lines answer is = judged_own Say HaveFault (if_asked asked lines) answer is
+command_own (commands.Each from question) Say HaveFault lines answer is = each_own Say HaveFault question answer is
+command_own command Say HaveFault lines answer is = made_own Say HaveFault (IsReply command) (reply_own command) answer is
 
-answer_own : (command : Command Format) (reader : Format) (bytes : List ℕ) (answer : Answer) → IsAnswer command reader bytes answer → IsOfInput answer.status
-answer_own command reader bytes _ (answers.TooLong many) = tt
-answer_own command reader bytes answer (answers.Read few _ is) = command_own command reader _ _ _ answer is
+own_from : (command : Command Format) (reader : Format) (bytes : List ℕ) (answer : Answer) → IsAnswerFrom command reader bytes answer → IsOfInput answer.status
+own_from command reader bytes _ (answers.TooLong many) = tt
+own_from command reader bytes answer (answers.Read few _ is) = command_own command _ _ _ answer is
 
--- ---- two files
+-- the summary of made hands is done
+own_by : (input : Option Format) (command : Command Format) (bytes : List ℕ) (answer : Answer) → IsAnswerBy input command bytes answer → IsOfInput answer.status
+own_by (Some reader) command bytes answer is = own_from command reader bytes answer is
+own_by None (commands.Load seed hands) bytes answer is = same_own answer _ is.shown tt
+own_by None command bytes answer is = absurd is
 
-both_own : (found : Option DifferentHand) (hands others : ℕ) → IsOfInput (compared_by found hands others).status
-both_own (Some differs) hands others = tt
-both_own None hands others =
-    elim (hands == others) as (λ same. IsOfInput (if same then to_same hands else to_other_count hands others).status) [ true ↦ tt | false ↦ tt ]
-
-beside_own : (other : Format) (notes : Bool) (file : List ℕ) (plays : List Play) (answer : Answer) → IsComparedWith other notes file plays answer → IsOfInput answer.status
-beside_own other notes file plays _ (in_compare.OtherUnread fault have answer shown) = fault_own fault answer shown
-beside_own other notes file plays _ (in_compare.OtherRefused number why is) = tt
-beside_own other notes file plays _ (in_compare.OtherPlayed others read) = both_own (first_different notes 0 plays others) (length plays) (length others)
-
-comparison_own : (by : Comparison) (file bytes : List ℕ) (answer : Answer) → IsComparison by file bytes answer → IsOfInput answer.status
-comparison_own by file bytes _ (in_compare.InputTooLong many) = tt
-comparison_own by file bytes answer (in_compare.InputRead few _ is) = made_own _ _ _ (beside_own by.other by.notes file) answer is
+answer_own : (command : Command Format) (bytes : List ℕ) (answer : Answer) → IsAnswer command bytes answer → IsOfInput answer.status
+answer_own command bytes answer is = own_by (input_of command) command bytes answer is
 
 -- ---- bytes of a source, whether it shows them or not
 
@@ -184,12 +187,7 @@ some_bytes : (left : Option (List ℕ)) (P : List ℕ → Type 0) (This : Type 0
 some_bytes (Some bytes) P This each is = each bytes is
 some_bytes None P This each is = each is.0 is.1
 
-pub of_way : (left : Option (List ℕ)) (by : Job) (result : Result made.Answer NoAnswerError)
-    → IfOk result (λ answer. OfBytes left (λ bytes. IsAnswerBy by bytes (answer_said answer))) → IfOk result (λ answer. IsOfInput answer.status)
-of_way left by (Ok answer) is = some_bytes left _ _ (λ bytes to. answer_own by.command by.reader bytes (answer_said answer) to) is
-of_way left by (Err why) is = tt
-
-pub of_both : (left : Option (List ℕ)) (by : Comparison) (file : List ℕ) (result : Result made.Answer NoAnswerError)
-    → IfOk result (λ answer. OfBytes left (λ bytes. IsComparison by file bytes (answer_said answer))) → IfOk result (λ answer. IsOfInput answer.status)
-of_both left by file (Ok answer) is = some_bytes left _ _ (λ bytes to. comparison_own by file bytes (answer_said answer) to) is
-of_both left by file (Err why) is = tt
+pub of_command : (left : Option (List ℕ)) (command : Command Format) (result : Result made.Answer NoAnswerError)
+    → IfOk result (λ answer. OfBytes left (λ bytes. IsAnswer command bytes (answer_said answer))) → IfOk result (λ answer. IsOfInput answer.status)
+of_command left command (Ok answer) is = some_bytes left _ _ (λ bytes to. answer_own command bytes (answer_said answer) to) is
+of_command left command (Err why) is = tt

@@ -1,68 +1,53 @@
--- A request to compare is answered by what the shelf and the source have.
-use Rattle.std.proofs.Common.{◌≡◌, ℕ, ◌<◌, ◌≤◌, Bool, List, length, Option, Some, None, IfOk, IfSome, Result, Ok, Err, refl, sym, subst, inl, inr, arith, ◌∙◌}
+-- A command is answered by what the shelf and the source have.
+use Rattle.std.proofs.Common.{◌≡◌, ℕ, ◌<◌, ◌≤◌, Bool, true, false, List, length, Option, Some, None, IfErr, IfOk, IfSome, IsErrOf, [], is_some, option_and_then, Result, Ok, Err, refl, sym, subst, inl, inr, arith, ap, ◌∙◌}
 use Rattle.std.proofs.lemmas.Option.{same_Some}
-use Rattle.command_words.specs.Words.{Sides, Compare, PlainSides, SidesUnder, Under}
-use Rattle.command_words.specs.declared.request.Logs.{Logs}
+use Rattle.std.proofs.lemmas.Result.{IfErr-weaker}
+use Rattle.command_words.specs.Command as commands
+use Rattle.command_words.specs.Command.{Command, command_in, file_of, reads_file, reads_input, with_notations}
+use Rattle.command_words.specs.declared.command.Command as made_command
+use Rattle.command_words.specs.declared.command.Command.TheVariants as cases
 use Rattle.acpc_game.specs.declared.game.Game.{Game}
-use Rattle.command_words.specs.declared.notation.NotationName.{NotationName}
 use Rattle.convert_core.specs.Conversion.{IsPlaysRefusal}
 use Rattle.convert_core.specs.declared.convert_fault.ConvertFault.{ConvertFault}
 use Rattle.convert_core.specs.declared.convert_fault.ConvertFault.TheVariants as convert_faults
 use Rattle.hand_canon.specs.declared.trace.Play.{Play}
-use Rattle.poker_cli.specs.AnswerParts.{Answer, most_input, to_excess}
-use Rattle.poker_cli.specs.Compare.{IsComparedIn, IsComparedTo, IsComparedWith, IsComparison, IsComparisonOf, in_file, to_file_excess}
+use Rattle.poker_cli.specs.Answer as answers
+use Rattle.poker_cli.specs.Answer.{IsAnswer, IsAnswerBeside, IsAnswerIn, IsAnswerUnder}
+use Rattle.poker_cli.specs.AnswerParts.{Answer, most_input}
+use Rattle.poker_cli.specs.Asked.{HasFile}
+use Rattle.poker_cli.specs.Compare as in_compare
+use Rattle.poker_cli.specs.Compare.{IsComparedWith, in_file, to_file_excess}
 use Rattle.poker_cli.specs.Files.{Files, FilesByName}
-use Rattle.poker_cli.specs.GameFiles.{GivesGame, IsGameFileErrorAnswer}
-use Rattle.poker_cli.specs.Compare as answers
+use Rattle.poker_cli.specs.GameFiles.{GivesGame, HasNoGame, IsGameFileErrorAnswer}
+use Rattle.command_words.specs.Words.{Plain}
+use Rattle.command_words.specs.declared.notation.PlainNotation.{PlainNotation}
+use Rattle.poker_cli.specs.NamedFormats.{format_under, in_formats_under, in_plain_formats, plain_format}
+use Rattle.command_words.specs.declared.notation.NotationName.{NotationName}
 use Rattle.convert_core.specs.Formats.{HaveFault, SayRecords}
-use Rattle.poker_cli.specs.ComparedFiles.{AreOfLogs, AsksForGame, HasNoFile, HasNoGameFor}
-use Rattle.poker_cli.specs.Run.{Asks, GivesNone, GivesSome, IsFileMissing, IsGameMissing, IsNotThere, IsWithoutFile, LacksFile, OfBytes, OfFile, OfGameFile, ReadsHands, WhereShown}
+use Rattle.poker_cli.specs.OtherFile.{HasNoFile}
+use Rattle.poker_cli.specs.Replied.{ComesFirst, HasNoReply}
+use Rattle.poker_cli.specs.Run.{AsksInOrder, GivesNone, GivesSome, IsMissing, IsNotThere, IsUseless, IsWithout, Lacks, MissesFile, MissesGame, Needs, OfBytes, OfFile, OfNamed, WhereNeeded, WhereShown, needs}
 use Rattle.poker_cli.specs.FaultAnswers.{IsFaultAnswer, answer_said}
 use Rattle.poker_cli.specs.declared.answer.Answer as made
-use Rattle.poker_cli.specs.declared.compared_files.NoFileError.TheVariants as no_files
-use Rattle.poker_cli.specs.declared.compare.Comparison.{Comparison}
+use Rattle.poker_cli.specs.declared.other_file.NoFileError.TheVariants as no_files
 use Rattle.poker_cli.specs.declared.game_files.GameFileError.{GameFileError}
 use Rattle.poker_cli.specs.declared.game_files.NoGameError.TheVariants as reasons
 use Rattle.poker_cli.specs.declared.no_answer.NoAnswerError.{NoAnswerError}
+use Rattle.poker_cli.specs.declared.no_answer.NoAnswerError.TheVariants as whys
 use Rattle.convert_core.specs.declared.format.Format.{Format}
-use Rattle.poker_cli.proofs.Answering.{beyond, bytes_told, no_game, of_all}
-use Rattle.poker_cli.proofs.FilesTold.{any_file, of_file, of_game_file, two_files}
+use Rattle.poker_cli.proofs.Answering.{bytes_told, no_game, of_all}
+use Rattle.poker_cli.proofs.FilesTold.{any_file, any_named, of_file, of_named, two_files}
 use Rattle.poker_cli.proofs.OneAnswer.{lacks_none}
 
 -- what is wrong inside the other file
 pub other_told : (other : Format) (notes : Bool) (file : List ℕ) (plays : List Play) (answer : Answer) (fault : ConvertFault)
     → IsPlaysRefusal (SayRecords other file) (HaveFault other file) fault → IsFaultAnswer fault answer
     → IsComparedWith other notes file plays (in_file answer)
-other_told other notes file plays answer (convert_faults.Format fault) have shown = answers.OtherUnread fault have answer shown
+other_told other notes file plays answer (convert_faults.Format fault) have shown = in_compare.OtherUnread fault have answer shown
 other_told other notes file plays answer (convert_faults.Refused number why) is shown =
-    subst (λ (a : Answer). IsComparedWith other notes file plays (in_file a)) (sym shown) (answers.OtherRefused number why is)
+    subst (λ (a : Answer). IsComparedWith other notes file plays (in_file a)) (sym shown) (in_compare.OtherRefused number why is)
 other_told other notes file plays answer (convert_faults.Unspelled number fact) is shown = absurd is
 other_told other notes file plays answer (convert_faults.Memory memory) is shown = absurd shown
-
--- more bytes than the limit
-pub compared_beyond : (by : Comparison) (file : List ℕ) (left : Option (List ℕ)) (answer : Answer)
-    → IfSome left (λ l. most_input < length l) → answer ≡ to_excess → OfBytes left (λ l. IsComparison by file l answer)
-compared_beyond by file left answer many is =
-    beyond most_input left _ many (λ bytes more. subst (λ (a : Answer). IsComparison by file bytes a) (sym is) (answers.InputTooLong more))
-
--- the bytes that were read are those that the source had left
-pub compared_within : (by : Comparison) (file : List ℕ) (left : Option (List ℕ)) (bytes : List ℕ) (answer : Answer)
-    → IfSome left (λ l. bytes ≡ l) → IsComparison by file bytes answer → OfBytes left (λ l. IsComparison by file l answer)
-compared_within by file (Some left) bytes answer all is = subst (λ (l : List ℕ). IsComparison by file l answer) all is
-compared_within by file None bytes answer all is = (bytes, is)
-
--- the file of a name has these bytes
-pub beside_reply : (shown : Option FilesByName) (left : Option (List ℕ)) (name : List ℕ) (by : Comparison) (file : List ℕ) (result : Result made.Answer NoAnswerError)
-    → OfFile shown name (λ other. (other ≡ Some file) × (length file ≤ most_input))
-    → IfOk result (λ answer. OfBytes left (λ bytes. IsComparison by file bytes (answer_said answer)))
-    → IfOk result (λ answer. OfFile shown name (λ other. OfBytes left (λ bytes. IsComparedTo by other bytes (answer_said answer))))
-beside_reply shown left name by file (Ok answer) there is =
-    of_file shown name (λ other. (other ≡ Some file) × (length file ≤ most_input))
-    (λ other. OfBytes left (λ bytes. IsComparedTo by other bytes (answer_said answer)))
-    (λ other found.
-    bytes_told left _ (λ bytes. IsComparedTo by other bytes (answer_said answer))
-    (λ bytes to. answers.ToOther file found.0 found.1 (answer_said answer) to) is) there
-beside_reply shown left name by file (Err why) there is = tt
 
 -- a file that is there within the limit
 there_alone : (other : Option (List ℕ)) (file : List ℕ) → (other ≡ Some file) × (length file ≤ most_input) → IsNotThere other → ⊥
@@ -84,157 +69,333 @@ pub kept_there : {X : Type 0} (shown : Option FilesByName) (name : List ℕ) (fi
 kept_there (Some files) name file input read found = λ without. absurd (there_alone (files name) file found without)
 kept_there None name file input read found = tt
 
--- or more bytes than the limit
-pub long_reply : (shown : Option FilesByName) (left : Option (List ℕ)) (name : List ℕ) (by : Comparison) (answer : Answer)
-    → OfFile shown name (λ other. HasNoFile other no_files.TooLong) → answer ≡ to_file_excess
-    → OfFile shown name (λ other. OfBytes left (λ bytes. IsComparedTo by other bytes answer))
-long_reply shown left name by answer long is =
-    of_file shown name (λ other. HasNoFile other no_files.TooLong) (λ other. OfBytes left (λ bytes. IsComparedTo by other bytes answer))
+-- ---- a command without another file
+
+-- a command that reads no other file names none, and stays the same whatever the other file is
+pub names_none : (command : made_command.Command Format) (name : List ℕ) → reads_file (command_in name command) ≡ false → file_of (command_in name command) ≡ None
+names_none (cases.Compare from other notes) name none = cc (none)
+names_none command name none = refl
+
+plain_file : (command : made_command.Command Format) (name text : List ℕ) (file : Option (List ℕ)) → reads_file (command_in name command) ≡ false
+    → HasFile file (command_in name command) (command_in text command)
+plain_file (cases.Compare from other notes) name text file none = cc (none)
+plain_file command name text file none = refl
+
+-- a name that is not given
+none_named : (name : Option (List ℕ)) (Useless : Option (List ℕ) → Type 0) (file : Option (List ℕ)) → name ≡ None → IsUseless Useless name file → ⊥
+none_named None Useless file none useless = useless
+none_named (Some name) Useless file none useless = cc (none)
+
+-- the other file has no part in whether the input is read
+pub same_input : (command : made_command.Command Format) (name text : List ℕ) → reads_input (command_in name command) ≡ reads_input (command_in text command)
+same_input (cases.Load seed hands) name text = refl
+same_input command name text = refl
+
+module _ (shown : Option FilesByName) (left : Option (List ℕ)) (command : made_command.Command Format) (name : List ℕ)
+    (none : reads_file (command_in name command) ≡ false) where
+  -- the answer does not depend on files
+  pub answer_alone : (result : Result made.Answer NoAnswerError)
+      → IfOk result (λ answer. OfBytes left (λ bytes. IsAnswer (command_in [] command) bytes (answer_said answer)))
+      → IfOk result (λ answer. WhereNeeded (needs None (command_in name command)) left shown
+      (λ files bytes. IsAnswerBeside (command_in name command) files.other bytes (answer_said answer)))
+  answer_alone (Ok answer) is =
+      any_named shown (file_of (command_in name command))
+      (λ file. OfBytes left (λ bytes. IsAnswerBeside (command_in name command) file bytes (answer_said answer)))
+      (λ file. bytes_told left (λ bytes. IsAnswer (command_in [] command) bytes (answer_said answer))
+      (λ bytes. IsAnswerBeside (command_in name command) file bytes (answer_said answer))
+      (λ bytes to. answers.Answered (command_in [] command) (plain_file command name [] file none) (answer_said answer) to) is)
+  answer_alone (Err why) is = tt
+
+  pub none_alone : (result : Result made.Answer NoAnswerError) → IfErr result (λ why. ComesFirst why → ⊥)
+      → (IsErrOf result whys.ReadFault → reads_input (command_in [] command) ≡ true)
+      → IfErr result (λ why. HasNoReply (needs None (command_in name command)) left shown why)
+  none_alone (Ok answer) alone reads = tt
+  none_alone (Err whys.ReadFault) alone reads =
+      any_named shown (file_of (command_in name command))
+      (λ file. OfBytes left (λ bytes. (reads_input (command_in name command) ≡ true) × (IsWithout (needs None (command_in name command)) (two_files None file) → ⊥)))
+      (λ file. of_all left _
+      (λ bytes. (same_input command name [] ∙ reads refl, unneeded file)))
+    where
+      unneeded : (file : Option (List ℕ)) → IsWithout (needs None (command_in name command)) (two_files None file) → ⊥
+      unneeded file (inl without) = without
+      unneeded file (inr without) = none_named (file_of (command_in name command)) IsNotThere file (names_none command name none) without
+  none_alone (Err (whys.Memory memory)) alone reads = tt
+  none_alone (Err whys.ShelfFault) alone reads = absurd (alone tt)
+  none_alone (Err whys.GameMissing) alone reads = absurd (alone tt)
+  none_alone (Err whys.FileMissing) alone reads = absurd (alone tt)
+
+  -- and the shelf is not asked
+  pub nothing_asked : {H : Type 0} (Asked : H → H → List ℕ → Type 0) (shelf : H) → AsksInOrder Asked shown None (file_of (command_in name command)) shelf shelf
+  nothing_asked Asked shelf =
+      subst (λ (other : Option (List ℕ)). AsksInOrder Asked shown None other shelf shelf) (sym (names_none command name none)) refl
+
+  pub lacks_nothing : Lacks (needs None (command_in name command)) shown → ⊥
+  lacks_nothing lacks = go shown lacks
+    where
+      go : (shown : Option FilesByName) → Lacks (needs None (command_in name command)) shown → ⊥
+      go None lacks = lacks
+      go (Some files) (inl without) = without
+      go (Some files) (inr without) = none_named (file_of (command_in name command)) IsNotThere _ (names_none command name none) without
+
+-- ---- a command with another file
+
+names_it : (command : made_command.Command Format) (name : List ℕ) → reads_file (command_in name command) ≡ true → file_of (command_in name command) ≡ Some name
+names_it (cases.Compare from other notes) name reads = refl
+names_it command name reads = cc (reads)
+
+has_file : (command : made_command.Command Format) (name text : List ℕ) (file : Option (List ℕ)) → reads_file (command_in name command) ≡ true
+    → file ≡ Some text → length text ≤ most_input → HasFile file (command_in name command) (command_in text command)
+has_file (cases.Compare from other notes) name text file reads there few = (text, (there, (few, refl)))
+has_file command name text file reads there few = cc (reads)
+
+-- the file of a name has these bytes
+pub beside_reply : (shown : Option FilesByName) (left : Option (List ℕ)) (name : List ℕ) (command : made_command.Command Format) (text : List ℕ)
+    → (result : Result made.Answer NoAnswerError) → reads_file (command_in name command) ≡ true
+    → OfFile shown name (λ other. (other ≡ Some text) × (length text ≤ most_input))
+    → IfOk result (λ answer. OfBytes left (λ bytes. IsAnswer (command_in text command) bytes (answer_said answer)))
+    → IfOk result (λ answer. OfFile shown name (λ other. OfBytes left (λ bytes. IsAnswerBeside (command_in name command) other bytes (answer_said answer))))
+beside_reply shown left name command text (Ok answer) reads there is =
+    of_file shown name (λ other. (other ≡ Some text) × (length text ≤ most_input))
+    (λ other. OfBytes left (λ bytes. IsAnswerBeside (command_in name command) other bytes (answer_said answer)))
     (λ other found.
-    of_all left (λ bytes. IsComparedTo by other bytes answer)
-    (λ bytes. subst (λ (a : Answer). IsComparedTo by other bytes a) (sym is) (answers.OtherTooLong found.0 found.1.0 found.1.1))) long
+    bytes_told left (λ bytes. IsAnswer (command_in text command) bytes (answer_said answer))
+    (λ bytes. IsAnswerBeside (command_in name command) other bytes (answer_said answer))
+    (λ bytes to. answers.Answered (command_in text command) (has_file command name text other reads found.0 found.1) (answer_said answer) to) is) there
+beside_reply shown left name command text (Err why) reads there is = tt
 
--- two files are compared so
-by_sides : (game file : Option (List ℕ)) (sides : Sides) (notes : Bool) (by : Comparison) (bytes : List ℕ) (answer : Answer)
-    → IsComparisonOf game sides notes by → IsComparedTo by file bytes answer
-    → IsComparedIn (two_files game file) sides notes bytes answer
-by_sides game file (PlainSides from other) notes by bytes answer so is =
-    subst (λ (c : Comparison). IsComparedTo c file bytes answer) so is
-by_sides game file (SidesUnder name from other) notes by bytes answer so is =
-    answers.ComparedInGame so.game so.gives answer (subst (λ (c : Comparison). IsComparedTo c file bytes answer) so.same is)
+-- or more bytes than the limit
+pub long_reply : (shown : Option FilesByName) (left : Option (List ℕ)) (name : List ℕ) (named : Command Format) (answer : Answer) → reads_file named ≡ true
+    → OfFile shown name (λ other. HasNoFile other no_files.TooLong) → answer ≡ to_file_excess
+    → OfFile shown name (λ other. OfBytes left (λ bytes. IsAnswerBeside named other bytes answer))
+long_reply shown left name named answer reads long is =
+    of_file shown name (λ other. HasNoFile other no_files.TooLong) (λ other. OfBytes left (λ bytes. IsAnswerBeside named other bytes answer))
+    (λ other found.
+    of_all left (λ bytes. IsAnswerBeside named other bytes answer)
+    (λ bytes. subst (λ (a : Answer). IsAnswerBeside named other bytes a) (sym is) (answers.FileTooLong reads found.0 found.1.0 found.1.1))) long
 
--- what follows from what is known of both files, whatever the bytes are
-with_both : (shown : Option FilesByName) (left : Option (List ℕ)) (sides : Sides) (name : List ℕ) (notes : Bool) (G F : Option (List ℕ) → Type 0)
-    → (P : Files → Type 0) → ((game file : Option (List ℕ)) → G game → F file → P (two_files game file))
-    → OfGameFile shown sides G → OfFile shown name F → WhereShown (Compare sides name notes) left shown (λ files bytes. P files)
-with_both shown left sides name notes G F P more of too =
-    of_game_file shown sides G (λ game. OfFile shown name (λ file. OfBytes left (λ bytes. P (two_files game file))))
-    (λ game is.
-    of_file shown name F (λ file. OfBytes left (λ bytes. P (two_files game file)))
-    (λ file here. of_all left (λ bytes. P (two_files game file)) (λ bytes. more game file is here)) too) of
+module _ (shown : Option FilesByName) (left : Option (List ℕ)) (command : made_command.Command Format) (name : List ℕ)
+    (reads : reads_file (command_in name command) ≡ true) where
+  -- what is known of the file of the name is known of the other file
+  pub of_other : (P : Option (List ℕ) → Type 0) → OfFile shown name P → OfNamed shown (file_of (command_in name command)) P
+  of_other P is = subst (λ (other : Option (List ℕ)). OfNamed shown other P) (sym (names_it command name reads)) is
 
-pub compared_reply : (shown : Option FilesByName) (left : Option (List ℕ)) (sides : Sides) (name : List ℕ) (notes : Bool) (by : Comparison)
-    → (result : Result made.Answer NoAnswerError) → OfGameFile shown sides (λ game. IsComparisonOf game sides notes by)
-    → IfOk result (λ answer. OfFile shown name (λ file. OfBytes left (λ bytes. IsComparedTo by file bytes (answer_said answer))))
-    → IfOk result (λ answer. WhereShown (Compare sides name notes) left shown (λ files bytes. IsComparedIn files sides notes bytes (answer_said answer)))
-compared_reply shown left sides name notes by (Ok answer) so is =
-    of_game_file shown sides (λ game. IsComparisonOf game sides notes by)
-    (λ game. OfFile shown name (λ file. OfBytes left (λ bytes. IsComparedIn (two_files game file) sides notes bytes (answer_said answer))))
-    (λ game of.
-    of_file shown name (λ file. OfBytes left (λ bytes. IsComparedTo by file bytes (answer_said answer)))
-    (λ file. OfBytes left (λ bytes. IsComparedIn (two_files game file) sides notes bytes (answer_said answer)))
-    (λ file.
-    bytes_told left (λ bytes. IsComparedTo by file bytes (answer_said answer))
-    (λ bytes. IsComparedIn (two_files game file) sides notes bytes (answer_said answer))
-    (λ bytes to. by_sides game file sides notes by bytes (answer_said answer) of to)) is) so
-compared_reply shown left sides name notes by (Err why) so is = tt
+  not_useless : (file : Option (List ℕ)) → (IsNotThere file → ⊥) → IsUseless IsNotThere (file_of (command_in name command)) file → ⊥
+  not_useless file there useless =
+      there (subst (λ (other : Option (List ℕ)). IsUseless IsNotThere other file) (names_it command name reads) useless)
 
--- the file is not there
-missing_in : (game file : Option (List ℕ)) (sides : Sides) (name : List ℕ) (notes : Bool) (by : Comparison) → IsComparisonOf game sides notes by
-    → file ≡ None → IsFileMissing (Compare sides name notes) (two_files game file)
-missing_in game file (PlainSides from other) name notes by so none = none
-missing_in game file (SidesUnder of from other) name notes by so none = ((so.game, so.gives), none)
+  pub answer_beside : (result : Result made.Answer NoAnswerError)
+      → IfOk result (λ answer. OfFile shown name (λ file. OfBytes left (λ bytes. IsAnswerBeside (command_in name command) file bytes (answer_said answer))))
+      → IfOk result (λ answer. WhereNeeded (needs None (command_in name command)) left shown
+      (λ files bytes. IsAnswerBeside (command_in name command) files.other bytes (answer_said answer)))
+  answer_beside (Ok answer) is = of_other (λ file. OfBytes left (λ bytes. IsAnswerBeside (command_in name command) file bytes (answer_said answer))) is
+  answer_beside (Err why) is = tt
 
-pub missing_reply : (shown : Option FilesByName) (left : Option (List ℕ)) (sides : Sides) (name : List ℕ) (notes : Bool) (by : Comparison)
-    → OfGameFile shown sides (λ game. IsComparisonOf game sides notes by) → OfFile shown name (λ file. file ≡ None)
-    → WhereShown (Compare sides name notes) left shown (λ files bytes. IsFileMissing (Compare sides name notes) files)
-missing_reply shown left sides name notes by so none =
-    with_both shown left sides name notes (λ game. IsComparisonOf game sides notes by) (λ file. file ≡ None) (IsFileMissing (Compare sides name notes))
-    (λ game file of is. missing_in game file sides name notes by of is) so none
+  -- whether the input is read
+  pub input_read : reads_input (command_in name command) ≡ true
+  input_read = go command reads
+    where
+      go : (command : made_command.Command Format) → reads_file (command_in name command) ≡ true → reads_input (command_in name command) ≡ true
+      go (cases.Load seed hands) reads = cc (reads)
+      go command reads = refl
 
--- both files are there, so the input is read
-there_in : (game file : Option (List ℕ)) (sides : Sides) (name : List ℕ) (notes : Bool) (by : Comparison) → IsComparisonOf game sides notes by
-    → (IsNotThere file → ⊥) → IsWithoutFile (Compare sides name notes) (two_files game file) → ⊥
-there_in game file (PlainSides from other) name notes by so there without = there without
-there_in game file (SidesUnder of from other) name notes by so there (inl none) = lacks_none game so.game so.gives none
-there_in game file (SidesUnder of from other) name notes by so there (inr without) = there without
+  pub none_beside : (result : Result made.Answer NoAnswerError)
+      → (IsErrOf result whys.ReadFault → OfFile shown name (λ file. IsNotThere file → ⊥))
+      → IfErr result (λ why. why ≡ whys.GameMissing → ⊥)
+      → (IsErrOf result whys.FileMissing → OfFile shown name (λ file. file ≡ None))
+      → IfErr result (λ why. HasNoReply (needs None (command_in name command)) left shown why)
+  none_beside (Ok answer) there of_file missing = tt
+  none_beside (Err whys.ReadFault) there of_game missing =
+      of_other (λ file. OfBytes left (λ bytes. (reads_input (command_in name command) ≡ true) × (IsWithout (needs None (command_in name command)) (two_files None file) → ⊥)))
+      (of_file shown name (λ file. IsNotThere file → ⊥)
+      (λ file. OfBytes left (λ bytes. (reads_input (command_in name command) ≡ true) × (IsWithout (needs None (command_in name command)) (two_files None file) → ⊥)))
+      (λ file here. of_all left _ (λ bytes. (input_read, unneeded file here))) (there refl))
+    where
+      unneeded : (file : Option (List ℕ)) → (IsNotThere file → ⊥) → IsWithout (needs None (command_in name command)) (two_files None file) → ⊥
+      unneeded file here (inl without) = without
+      unneeded file here (inr without) = not_useless file here without
+  none_beside (Err whys.ShelfFault) there of_game missing = inr (ap (λ (other : Option (List ℕ)). is_some other) (names_it command name reads))
+  none_beside (Err whys.GameMissing) there of_game missing = absurd (of_game refl)
+  none_beside (Err whys.FileMissing) there of_game missing =
+      of_other (λ file. OfBytes left (λ bytes. MissesFile (needs None (command_in name command)) (two_files None file)))
+      (of_file shown name (λ file. file ≡ None) (λ file. OfBytes left (λ bytes. MissesFile (needs None (command_in name command)) (two_files None file)))
+      (λ file none. of_all left _ (λ bytes. (tt, subst (λ (other : Option (List ℕ)). IsMissing other file) (sym (names_it command name reads)) none))) (missing refl))
+  none_beside (Err (whys.Memory memory)) there of_game missing = tt
 
-pub read_beside : (shown : Option FilesByName) (left : Option (List ℕ)) (sides : Sides) (name : List ℕ) (notes : Bool) (by : Comparison)
-    → OfGameFile shown sides (λ game. IsComparisonOf game sides notes by) → OfFile shown name (λ file. IsNotThere file → ⊥)
-    → WhereShown (Compare sides name notes) left shown
-    (λ files bytes. ReadsHands (Compare sides name notes) × (IsWithoutFile (Compare sides name notes) files → ⊥))
-read_beside shown left sides name notes by so there =
-    with_both shown left sides name notes (λ game. IsComparisonOf game sides notes by) (λ file. IsNotThere file → ⊥)
-    (λ files. ReadsHands (Compare sides name notes) × (IsWithoutFile (Compare sides name notes) files → ⊥))
-    (λ game file of is. (tt, there_in game file sides name notes by of is)) so there
+  pub one_asked : {H : Type 0} (Asked : H → H → List ℕ → Type 0) (shelf seen : H) → Asked shelf seen name
+      → AsksInOrder Asked shown None (file_of (command_in name command)) shelf seen
+  one_asked Asked shelf seen asked =
+      subst (λ (other : Option (List ℕ)). AsksInOrder Asked shown None other shelf seen) (sym (names_it command name reads)) asked
+
+  pub where_lacking : (Q : Type 0) → IfSome shown (λ files. IsNotThere (files name) → Q) → Lacks (needs None (command_in name command)) shown → Q
+  where_lacking Q then lacks = go shown then lacks
+    where
+      go : (shown : Option FilesByName) → IfSome shown (λ files. IsNotThere (files name) → Q) → Lacks (needs None (command_in name command)) shown → Q
+      go None then lacks = absurd lacks
+      go (Some files) then (inl without) = absurd without
+      go (Some files) then (inr without) =
+          then (subst (λ (other : Option (List ℕ)). IsUseless IsNotThere other (option_and_then files other)) (names_it command name reads) without)
+
+-- ---- a command under a game
+
+-- the notations have no part in what a command needs
+pub same_needs : {N M : Type 0} (meaning : N → M) (game : Option (List ℕ)) (command : Command N) → needs game (with_notations meaning command) ≡ needs game command
+same_needs meaning game (commands.Compare from other file notes) = refl
+same_needs meaning game (commands.Load seed hands) = refl
+same_needs meaning game command = refl
+
+module _ (shown : Option FilesByName) (left : Option (List ℕ)) (name : List ℕ) (command : Command NotationName) (game : Game)
+    (gives : OfFile shown name (λ file. GivesGame file game)) where
+  -- the answer is that under the game in its file
+  pub game_reply : (result : Result made.Answer NoAnswerError)
+      → IfOk result (λ answer. WhereNeeded (needs None command) left shown
+      (λ files bytes. IsAnswerBeside (in_formats_under game command) files.other bytes (answer_said answer)))
+      → IfOk result (λ answer. WhereNeeded (needs (Some name) command) left shown (λ files bytes. IsAnswerUnder files command bytes (answer_said answer)))
+  game_reply (Ok answer) is =
+      of_file shown name (λ file. GivesGame file game)
+      (λ file. OfNamed shown (file_of command) (λ other. OfBytes left (λ bytes. IsAnswerUnder (two_files file other) command bytes (answer_said answer))))
+      (λ file given.
+      of_named shown (file_of command) (λ other. OfBytes left (λ bytes. IsAnswerBeside (in_formats_under game command) other bytes (answer_said answer)))
+      (λ other. OfBytes left (λ bytes. IsAnswerUnder (two_files file other) command bytes (answer_said answer)))
+      (λ other.
+      bytes_told left (λ bytes. IsAnswerBeside (in_formats_under game command) other bytes (answer_said answer))
+      (λ bytes. IsAnswerUnder (two_files file other) command bytes (answer_said answer))
+      (λ bytes to. answers.InGame game given (answer_said answer) to)) is) gives
+  game_reply (Err why) is = tt
+
+  -- a game that its file gives is not missing
+  without_other : (file other : Option (List ℕ)) → GivesGame file game → (IsWithout (needs None command) (two_files None other) → ⊥)
+      → IsWithout (needs (Some name) command) (two_files file other) → ⊥
+  without_other file other given there (inl none) = lacks_none file game given none
+  without_other file other given there (inr without) = there (inr without)
+
+  pub none_under : (why : NoAnswerError) → HasNoReply (needs None command) left shown why → HasNoReply (needs (Some name) command) left shown why
+  none_under whys.ReadFault none =
+      of_file shown name (λ file. GivesGame file game)
+      (λ file. OfNamed shown (file_of command)
+      (λ other. OfBytes left (λ bytes. (reads_input command ≡ true) × (IsWithout (needs (Some name) command) (two_files file other) → ⊥))))
+      (λ file given.
+      of_named shown (file_of command)
+      (λ other. OfBytes left (λ bytes. (reads_input command ≡ true) × (IsWithout (needs None command) (two_files None other) → ⊥)))
+      (λ other. OfBytes left (λ bytes. (reads_input command ≡ true) × (IsWithout (needs (Some name) command) (two_files file other) → ⊥)))
+      (λ other.
+      bytes_told left (λ bytes. (reads_input command ≡ true) × (IsWithout (needs None command) (two_files None other) → ⊥))
+      (λ bytes. (reads_input command ≡ true) × (IsWithout (needs (Some name) command) (two_files file other) → ⊥))
+      (λ bytes is. (is.0, without_other file other given is.1))) none) gives
+  none_under whys.ShelfFault none = inl refl
+  none_under whys.GameMissing none =
+      any_file shown name (λ file. OfNamed shown (file_of command) (λ other. OfBytes left (λ bytes. MissesGame (needs (Some name) command) (two_files file other))))
+      (λ file.
+      of_named shown (file_of command) (λ other. OfBytes left (λ bytes. MissesGame (needs None command) (two_files None other)))
+      (λ other. OfBytes left (λ bytes. MissesGame (needs (Some name) command) (two_files file other)))
+      (λ other.
+      bytes_told left (λ bytes. MissesGame (needs None command) (two_files None other))
+      (λ bytes. MissesGame (needs (Some name) command) (two_files file other)) (λ bytes missing. absurd missing)) none)
+  none_under whys.FileMissing none =
+      of_file shown name (λ file. GivesGame file game)
+      (λ file. OfNamed shown (file_of command) (λ other. OfBytes left (λ bytes. MissesFile (needs (Some name) command) (two_files file other))))
+      (λ file given.
+      of_named shown (file_of command) (λ other. OfBytes left (λ bytes. MissesFile (needs None command) (two_files None other)))
+      (λ other. OfBytes left (λ bytes. MissesFile (needs (Some name) command) (two_files file other)))
+      (λ other.
+      bytes_told left (λ bytes. MissesFile (needs None command) (two_files None other))
+      (λ bytes. MissesFile (needs (Some name) command) (two_files file other)) (λ bytes missing. ((game, given), missing.1))) none) gives
+  none_under (whys.Memory memory) none = tt
+
+  -- what is lacking is not the game
+  pub other_lacks : Lacks (needs (Some name) command) shown → Lacks (needs None command) shown
+  other_lacks lacks = go shown gives lacks
+    where
+      go : (shown : Option FilesByName) → OfFile shown name (λ file. GivesGame file game) → Lacks (needs (Some name) command) shown → Lacks (needs None command) shown
+      go None gives lacks = absurd lacks
+      go (Some files) gives (inl none) = absurd (lacks_none (files name) game gives none)
+      go (Some files) gives (inr without) = inr without
+
+  gives_some : GivesSome shown name
+  gives_some = go shown gives
+    where
+      go : (shown : Option FilesByName) → OfFile shown name (λ file. GivesGame file game) → GivesSome shown name
+      go (Some files) gives = (game, gives)
+      go None gives = tt
+
+  -- the shelf is asked for the game file, and then for the other file
+  pub both_asked : {H : Type 0} (Asked : H → H → List ℕ → Type 0) (shelf between seen : H) → Asked shelf between name
+      → AsksInOrder Asked shown None (file_of command) between seen → AsksInOrder Asked shown (Some name) (file_of command) shelf seen
+  both_asked {H} Asked shelf between seen first asked = go (file_of command) asked
+    where
+      go : (other : Option (List ℕ)) → AsksInOrder Asked shown None other between seen → AsksInOrder Asked shown (Some name) other shelf seen
+      go None asked = subst (λ (s : H). Asked shelf s name) (sym asked) first
+      go (Some file) asked = (between, (first, inr (gives_some, asked)))
+
+-- or for the game file alone
+pub game_asked : {H : Type 0} (Asked : H → H → List ℕ → Type 0) (shown : Option FilesByName) (name : List ℕ) (other : Option (List ℕ)) (shelf seen : H)
+    → Asked shelf seen name → AsksInOrder Asked shown (Some name) other shelf seen
+game_asked Asked shown name None shelf seen asked = asked
+game_asked Asked shown name (Some file) shelf seen asked = (seen, (asked, inl refl))
 
 -- this is wrong with the game file
-game_file_error_in : (game file : Option (List ℕ)) (sides : Sides) (notes : Bool) (bytes : List ℕ) (lack : GameFileError) (answer : Answer)
-    → HasNoGameFor game sides (reasons.Lacking lack) → IsGameFileErrorAnswer lack answer
-    → IsComparedIn (two_files game file) sides notes bytes answer
-game_file_error_in game file (PlainSides from other) notes bytes lack answer none shown = absurd none
-game_file_error_in game file (SidesUnder name from other) notes bytes lack answer none shown =
-    answers.NoGameToCompare answer (no_game game lack answer none shown)
-
-pub compared_game_file_error : (shown : Option FilesByName) (left : Option (List ℕ)) (sides : Sides) (name : List ℕ) (notes : Bool) (lack : GameFileError) (answer : Answer)
-    → OfGameFile shown sides (λ game. HasNoGameFor game sides (reasons.Lacking lack)) → IsGameFileErrorAnswer lack answer
-    → WhereShown (Compare sides name notes) left shown (λ files bytes. IsComparedIn files sides notes bytes answer)
-compared_game_file_error shown left sides name notes lack answer none tells =
-    of_game_file shown sides (λ game. HasNoGameFor game sides (reasons.Lacking lack))
-    (λ game. OfFile shown name (λ file. OfBytes left (λ bytes. IsComparedIn (two_files game file) sides notes bytes answer)))
-    (λ game lacking.
-    any_file shown name (λ file. OfBytes left (λ bytes. IsComparedIn (two_files game file) sides notes bytes answer))
-    (λ file.
-    of_all left (λ bytes. IsComparedIn (two_files game file) sides notes bytes answer)
-    (λ bytes. game_file_error_in game file sides notes bytes lack answer lacking tells))) none
+pub game_file_error_reply : (shown : Option FilesByName) (left : Option (List ℕ)) (name : List ℕ) (command : Command NotationName) (lack : GameFileError) (answer : Answer)
+    → OfFile shown name (λ file. HasNoGame file (reasons.Lacking lack)) → IsGameFileErrorAnswer lack answer
+    → WhereNeeded (needs (Some name) command) left shown (λ files bytes. IsAnswerUnder files command bytes answer)
+game_file_error_reply shown left name command lack answer is tells =
+    of_file shown name (λ file. HasNoGame file (reasons.Lacking lack))
+    (λ file. OfNamed shown (file_of command) (λ other. OfBytes left (λ bytes. IsAnswerUnder (two_files file other) command bytes answer)))
+    (λ file lacking.
+    any_named shown (file_of command) (λ other. OfBytes left (λ bytes. IsAnswerUnder (two_files file other) command bytes answer))
+    (λ other.
+    of_all left (λ bytes. IsAnswerUnder (two_files file other) command bytes answer)
+    (λ bytes. answers.NoGame answer (no_game file lack answer lacking tells)))) is
 
 -- the game file is not there
-pub no_game_file : (shown : Option FilesByName) (left : Option (List ℕ)) (sides : Sides) (name : List ℕ) (notes : Bool)
-    → OfGameFile shown sides (λ game. HasNoGameFor game sides reasons.Missing)
-    → WhereShown (Compare sides name notes) left shown (λ files bytes. IsGameMissing (Compare sides name notes) files)
-no_game_file shown left (PlainSides from other) name notes none = absurd none
-no_game_file shown left (SidesUnder game from other) name notes none =
-    of_file shown game (λ found. found ≡ None) (λ found. OfFile shown name (λ file. OfBytes left (λ bytes. found ≡ None)))
-    (λ found is.
-    any_file shown name (λ file. OfBytes left (λ bytes. found ≡ None)) (λ file. of_all left (λ bytes. found ≡ None) (λ bytes. is))) none
+pub game_not_there : (shown : Option FilesByName) (left : Option (List ℕ)) (name : List ℕ) (command : Command NotationName)
+    → OfFile shown name (λ file. file ≡ None) → WhereNeeded (needs (Some name) command) left shown (λ files bytes. MissesGame (needs (Some name) command) files)
+game_not_there shown left name command none =
+    of_file shown name (λ file. file ≡ None)
+    (λ file. OfNamed shown (file_of command) (λ other. OfBytes left (λ bytes. file ≡ None)))
+    (λ file is.
+    any_named shown (file_of command) (λ other. OfBytes left (λ bytes. file ≡ None)) (λ other. of_all left (λ bytes. file ≡ None) (λ bytes. is))) none
 
--- what holds if the other file is missing holds if any file is missing, because the game is given
-lacks_in : (Q : Type 0) (files : FilesByName) (sides : Sides) (name : List ℕ) (notes : Bool) (by : Comparison)
-    → OfGameFile (Some files) sides (λ game. IsComparisonOf game sides notes by) → (IsNotThere (files name) → Q)
-    → LacksFile (Compare sides name notes) (Some files) → Q
-lacks_in Q files (PlainSides from other) name notes by so then lacks = then lacks
-lacks_in Q files (SidesUnder game from other) name notes by so then (inl none) = absurd (lacks_none (files game) so.game so.gives none)
-lacks_in Q files (SidesUnder game from other) name notes by so then (inr lacks) = then lacks
+-- ---- what is known of a command once its notations are formats
 
-never_lacks : (sides : Sides) (name : List ℕ) (notes : Bool) → LacksFile (Compare sides name notes) None → ⊥
-never_lacks (PlainSides from other) name notes lacks = lacks
-never_lacks (SidesUnder game from other) name notes lacks = lacks
+module _ (shown seen : Option FilesByName) (left : Option (List ℕ)) (name : List ℕ) (command : Command NotationName) (asked : Command Format) (game : Game)
+    (same : seen ≡ shown) (is : asked ≡ in_formats_under game command) (gives : OfFile shown name (λ file. GivesGame file game)) where
+  needed : needs None asked ≡ needs None command
+  needed = ap (needs None) is ∙ same_needs (format_under game) None command
 
-pub where_lacking : (Q : Type 0) (shown : Option FilesByName) (sides : Sides) (name : List ℕ) (notes : Bool) (by : Comparison)
-    → OfGameFile shown sides (λ game. IsComparisonOf game sides notes by) → IfSome shown (λ files. IsNotThere (files name) → Q)
-    → LacksFile (Compare sides name notes) shown → Q
-where_lacking Q (Some files) sides name notes by so then lacks = lacks_in Q files sides name notes by so then lacks
-where_lacking Q None sides name notes by so then lacks = absurd (never_lacks sides name notes lacks)
+  pub under_answer : (result : Result made.Answer NoAnswerError)
+      → IfOk result (λ answer. WhereNeeded (needs None asked) left seen (λ files bytes. IsAnswerBeside asked files.other bytes (answer_said answer)))
+      → IfOk result (λ answer. WhereNeeded (needs (Some name) command) left shown (λ files bytes. IsAnswerUnder files command bytes (answer_said answer)))
+  under_answer result answered =
+      game_reply shown left name command game gives result
+      (subst (λ (c : Command Format). IfOk result (λ answer. WhereNeeded (needs None command) left shown (λ files bytes. IsAnswerBeside c files.other bytes (answer_said answer)))) is
+      (subst (λ (n : Needs). IfOk result (λ answer. WhereNeeded n left shown (λ files bytes. IsAnswerBeside asked files.other bytes (answer_said answer)))) needed
+      (subst (λ (s : Option FilesByName). IfOk result (λ answer. WhereNeeded (needs None asked) left s (λ files bytes. IsAnswerBeside asked files.other bytes (answer_said answer)))) same
+      answered)))
 
--- a game that its file gives is not missing, so the input is read
-pub game_there : (shown : Option FilesByName) (left : Option (List ℕ)) (name : List ℕ) (logs : Logs) (game : Game)
-    → OfFile shown name (λ file. GivesGame file game)
-    → WhereShown (Under name logs) left shown (λ files bytes. ReadsHands (Under name logs) × (IsWithoutFile (Under name logs) files → ⊥))
-game_there shown left name logs game gives =
-    of_file shown name (λ file. GivesGame file game) (λ file. OfBytes left (λ bytes. ReadsHands (Under name logs) × (GivesNone file → ⊥)))
-    (λ file given. of_all left (λ bytes. ReadsHands (Under name logs) × (GivesNone file → ⊥)) (λ bytes. (tt, lacks_none file game given))) gives
+  pub under_none : (result : Result made.Answer NoAnswerError) → IfErr result (λ why. HasNoReply (needs None asked) left seen why)
+      → IfErr result (λ why. HasNoReply (needs (Some name) command) left shown why)
+  under_none result none =
+      IfErr-weaker result _ _ (none_under shown left name command game gives)
+      (subst (λ (n : Needs). IfErr result (λ why. HasNoReply n left shown why)) needed
+      (subst (λ (s : Option FilesByName). IfErr result (λ why. HasNoReply (needs None asked) left s why)) same none))
 
--- the game file is not there
-pub game_not_there : (shown : Option FilesByName) (left : Option (List ℕ)) (name : List ℕ) (logs : Logs)
-    → OfFile shown name (λ file. file ≡ None) → WhereShown (Under name logs) left shown (λ files bytes. IsGameMissing (Under name logs) files)
-game_not_there shown left name logs none =
-    of_file shown name (λ file. file ≡ None) (λ file. OfBytes left (λ bytes. file ≡ None)) (λ file is. of_all left (λ bytes. file ≡ None) (λ bytes. is)) none
+  pub under_asks : {H : Type 0} (Asked : H → H → List ℕ → Type 0) (shelf between now : H) → Asked shelf between name
+      → AsksInOrder Asked seen None (file_of asked) between now → AsksInOrder Asked shown (Some name) (file_of command) shelf now
+  under_asks Asked shelf between now first asks =
+      both_asked shown left name command game gives Asked shelf between now first
+      (subst (λ (n : Needs). AsksInOrder Asked shown None n.other between now) needed
+      (subst (λ (s : Option FilesByName). AsksInOrder Asked s None (file_of asked) between now) same asks))
 
--- a shelf is asked for the game file and then for the other file
-gives_some : (shown : Option FilesByName) (game : List ℕ) (from other : NotationName) (notes : Bool) (by : Comparison)
-    → OfGameFile shown (SidesUnder game from other) (λ file. IsComparisonOf file (SidesUnder game from other) notes by) → GivesSome shown game
-gives_some (Some files) game from other notes by so = (so.game, so.gives)
-gives_some None game from other notes by so = tt
+  pub under_lacks : (Q : Type 0) → (Lacks (needs None asked) seen → Q) → Lacks (needs (Some name) command) shown → Q
+  under_lacks Q then lacks =
+      then (subst (λ (s : Option FilesByName). Lacks (needs None asked) s) (sym same)
+      (subst (λ (n : Needs). Lacks n shown) (sym needed) (other_lacks shown left name command game gives lacks)))
 
-module _ {H : Type 0} (Asked : H → H → List ℕ → Type 0) (shown : Option FilesByName) (name : List ℕ) (notes : Bool) (shelf between : H) where
-  pub both_asked : (sides : Sides) (by : Comparison) (seen : H) → OfGameFile shown sides (λ game. IsComparisonOf game sides notes by)
-      → AsksForGame Asked sides shelf between → Asked between seen name → Asks Asked shown (Compare sides name notes) shelf seen
-  both_asked (PlainSides from other) by seen so none asked = subst (λ (s : H). Asked s seen name) none asked
-  both_asked (SidesUnder game from other) by seen so first asked =
-      (between, (first, inr (gives_some shown game from other notes by so, asked)))
-
-  -- or for the game file alone
-  pub game_asked : (sides : Sides) → AreOfLogs sides → AsksForGame Asked sides shelf between
-      → Asks Asked shown (Compare sides name notes) shelf between
-  game_asked (PlainSides from other) logs first = absurd logs
-  game_asked (SidesUnder game from other) logs first = (between, (first, inl refl))
+-- a command that needs no game
+pub plain_answer : (shown : Option FilesByName) (left : Option (List ℕ)) (command : Command PlainNotation) (asked : Command Format) (result : Result made.Answer NoAnswerError)
+    → asked ≡ in_plain_formats command
+    → IfOk result (λ answer. WhereNeeded (needs None asked) left shown (λ files bytes. IsAnswerBeside asked files.other bytes (answer_said answer)))
+    → IfOk result (λ answer. WhereShown (Plain command) left shown (λ files bytes. IsAnswerIn (Plain command) files bytes (answer_said answer)))
+plain_answer shown left command asked result is answered =
+    subst (λ (c : Command Format). IfOk result (λ answer. WhereNeeded (needs None command) left shown (λ files bytes. IsAnswerBeside c files.other bytes (answer_said answer)))) is
+    (subst (λ (n : Needs). IfOk result (λ answer. WhereNeeded n left shown (λ files bytes. IsAnswerBeside asked files.other bytes (answer_said answer))))
+    (ap (needs None) is ∙ same_needs plain_format None command) answered)

@@ -1,19 +1,20 @@
 -- The list of commands: what each answers, by the bytes of its input and of the files that it
 -- names. The file of each command has its definition; a command that prints one text has its line
 -- here alone.
-use Rattle.std.specs.Prelude.{◌≡◌, ℕ, ◌<◌, ◌≤◌, List, length, Option}
+use Rattle.std.specs.Prelude.{◌≡◌, ℕ, ◌<◌, ◌≤◌, true, List, length, Option, Some, None}
 use Rattle.acpc_game.specs.declared.game.Game.{Game}
-use Rattle.command_words.specs.Words.{Compare, Load, Plain, Request, Under}
-use Rattle.command_words.specs.declared.command.Command.{Command}
-use Rattle.command_words.specs.declared.command.Command.TheVariants as commands
-use Rattle.command_words.specs.declared.request.Logs.{Logs}
+use Rattle.command_words.specs.Command as commands
+use Rattle.command_words.specs.Command.{Command, input_of, reads_file}
+use Rattle.command_words.specs.Words.{Plain, Request, Under}
+use Rattle.command_words.specs.declared.notation.NotationName.{NotationName}
 use Rattle.convert_core.specs.declared.format_fault.FormatFault.{FormatFault}
 use Rattle.hand_canon.specs.declared.record.Record.{Record}
 use Rattle.hand_canon.specs.declared.trace.Play.{Play}
 use Rattle.hand_session.specs.Printed.{session_printed}
 use Rattle.hand_session.specs.Sessions.{session_said}
 use Rattle.poker_cli.specs.AnswerParts.{Answer, IsAnswerTo, done, most_input, to_excess}
-use Rattle.poker_cli.specs.Compare.{IsComparedIn}
+use Rattle.poker_cli.specs.Asked.{HasFile}
+use Rattle.poker_cli.specs.Compare.{IsComparedWith, to_file_excess}
 use Rattle.poker_cli.specs.Convert.{IsConversion}
 use Rattle.poker_cli.specs.Each.{IsAnswerOfEach}
 use Rattle.poker_cli.specs.Equity.{IsEquityAt}
@@ -23,73 +24,89 @@ use Rattle.poker_cli.specs.GameFiles.{GivesGame, GivesNoGame}
 use Rattle.convert_core.specs.Formats.{HaveFault, SayRecords, first_lines}
 use Rattle.poker_cli.specs.Judge.{IsJudgement, if_asked}
 use Rattle.poker_cli.specs.Load.{IsSummed}
+use Rattle.poker_cli.specs.NamedFormats.{in_formats_under, in_plain_formats}
 use Rattle.poker_cli.specs.Options.{AreOptionsAt}
 use Rattle.poker_cli.specs.Views.{AreMessages}
-use Rattle.poker_cli.specs.Ways.{job_under, plain_job}
 use Rattle.convert_core.specs.declared.format.Format.{Format}
-use Rattle.poker_cli.specs.declared.task.Job.{Job}
 use Rattle.printed_hands.specs.Check.{check_said}
 use Rattle.printed_hands.specs.Replay.{replay_said}
 use Rattle.printed_hands.specs.Report.{report_said}
 
--- the answer to a command about hands that are all legal and agree with what is stated of them, and
--- were read in a notation; verdicts and answers of each hand by itself are not made of plays
-abbrev pub IsReply : Command Format → (reader : Format) → List Play → Answer → Type 0
-IsReply commands.Check reader plays answer = answer ≡ done (check_said plays)
-IsReply commands.Replay reader plays answer = answer ≡ done (replay_said plays)
-IsReply commands.Report reader plays answer = answer ≡ done (report_said plays)
-IsReply commands.Session reader plays answer =
-    answer ≡ done (session_printed (session_said plays))
-IsReply commands.Game reader plays answer = IsGameReply plays answer
-IsReply (commands.Options hand events) reader plays answer = AreOptionsAt hand events plays answer
-IsReply (commands.Equity hand street) reader plays answer = IsEquityAt hand street plays answer
-IsReply (commands.Judge lines) reader plays answer = ⊥
-IsReply (commands.Each question) reader plays answer = ⊥
-IsReply (commands.Views seat) reader plays answer = AreMessages reader seat plays answer
-IsReply (commands.Convert to keep) reader plays answer = IsConversion to keep plays answer
+-- the answer to a command about hands that are all legal and agree with what is stated of them;
+-- verdicts, answers of each hand by itself, and summaries of made hands are not made of plays
+abbrev pub IsReply : Command Format → List Play → Answer → Type 0
+IsReply (commands.Check from) plays answer = answer ≡ done (check_said plays)
+IsReply (commands.Replay from) plays answer = answer ≡ done (replay_said plays)
+IsReply (commands.Report from) plays answer = answer ≡ done (report_said plays)
+IsReply (commands.Session from) plays answer = answer ≡ done (session_printed (session_said plays))
+IsReply (commands.Game from) plays answer = IsGameReply plays answer
+IsReply (commands.Options from hand events) plays answer = AreOptionsAt hand events plays answer
+IsReply (commands.Equity from hand street) plays answer = IsEquityAt hand street plays answer
+IsReply (commands.Judge from lines) plays answer = ⊥
+IsReply (commands.Each from question) plays answer = ⊥
+IsReply (commands.Views from seat) plays answer = AreMessages from seat plays answer
+IsReply (commands.Convert from to keep) plays answer = IsConversion to keep plays answer
+IsReply (commands.Compare from other file notes) plays answer =
+    IsComparedWith other notes file plays answer
+IsReply (commands.Load seed hands) plays answer = ⊥
 
--- the answer to bytes that are read in a notation and whose hands begin on these lines, by what is
--- asked about their hands
-abbrev pub IsAnswerOf : Command Format → (reader : Format) → (List Record → Type 0)
-    → (FormatFault → Type 0) → (lines : List ℕ) → Answer → Type 0
-IsAnswerOf (commands.Each question) reader Say HaveFault lines answer =
+-- the answer to bytes whose hands begin on these lines, by what is asked about their hands
+abbrev pub IsAnswerOf : Command Format → (List Record → Type 0) → (FormatFault → Type 0)
+    → (lines : List ℕ) → Answer → Type 0
+IsAnswerOf (commands.Each from question) Say HaveFault lines answer =
     IsAnswerOfEach Say HaveFault question answer
-IsAnswerOf (commands.Judge asked) reader Say HaveFault lines answer =
+IsAnswerOf (commands.Judge from asked) Say HaveFault lines answer =
     IsJudgement Say HaveFault (if_asked asked lines) answer
-IsAnswerOf command reader Say HaveFault lines answer =
-    IsAnswerTo Say HaveFault (IsReply command reader) answer
+IsAnswerOf command Say HaveFault lines answer = IsAnswerTo Say HaveFault (IsReply command) answer
 
--- The answer to the bytes of an input, by how they are read and what is done with their hands.
-pub data IsAnswer (command : Command Format) (reader : Format) (bytes : List ℕ) : Answer
+-- The answer to a command about the bytes of an input, which is read in this notation.
+pub data IsAnswerFrom (command : Command Format) (reader : Format) (bytes : List ℕ) : Answer
     → Type 0 where
   -- there are too many bytes
-  TooLong : most_input < length bytes → IsAnswer command reader bytes to_excess
+  TooLong : most_input < length bytes → IsAnswerFrom command reader bytes to_excess
   -- the bytes are within the limit, and are read
   Read : length bytes ≤ most_input → (answer : Answer)
-      → IsAnswerOf command reader (SayRecords reader bytes) (HaveFault reader bytes)
+      → IsAnswerOf command (SayRecords reader bytes) (HaveFault reader bytes)
       (first_lines reader bytes) answer
-      → IsAnswer command reader bytes answer
+      → IsAnswerFrom command reader bytes answer
 
--- the answer to the bytes of an input that is read and handled this way
-abbrev pub IsAnswerBy : Job → List ℕ → Answer → Type 0
-IsAnswerBy by bytes answer = IsAnswer by.command by.reader bytes answer
+-- the answer to a command that reads no input
+abbrev pub IsMade : Command Format → Answer → Type 0
+IsMade (commands.Load seed hands) answer = IsSummed seed hands answer
+IsMade command answer = ⊥
 
--- The answer to bytes if logs are under the game in this game file.
-pub data IsAnswerUnder (file : Option (List ℕ)) (logs : Logs) (bytes : List ℕ) : Answer
+-- the answer to a command about the bytes of an input, by the notation of the input if there is one
+abbrev pub IsAnswerBy : Option Format → Command Format → List ℕ → Answer → Type 0
+IsAnswerBy (Some reader) command bytes answer = IsAnswerFrom command reader bytes answer
+IsAnswerBy None command bytes answer = IsMade command answer
+
+-- the answer to a command about the bytes of an input
+abbrev pub IsAnswer : Command Format → List ℕ → Answer → Type 0
+IsAnswer command bytes answer = IsAnswerBy (input_of command) command bytes answer
+
+-- The answer to a command that may name another file, by that file and the bytes of the input.
+pub data IsAnswerBeside (named : Command Format) (file : Option (List ℕ)) (bytes : List ℕ) : Answer
+    → Type 0 where
+  -- the file is too long
+  FileTooLong : reads_file named ≡ true → (text : List ℕ) → file ≡ Some text
+      → most_input < length text → IsAnswerBeside named file bytes to_file_excess
+  -- the command is answered
+  Answered : (asked : Command Format) → HasFile file named asked → (answer : Answer)
+      → IsAnswer asked bytes answer → IsAnswerBeside named file bytes answer
+
+-- The answer to a command if logs are under the game in its game file.
+pub data IsAnswerUnder (files : Files) (command : Command NotationName) (bytes : List ℕ) : Answer
     → Type 0 where
   -- the game file gives no game
-  NoGameError : (answer : Answer) → GivesNoGame file answer → IsAnswerUnder file logs bytes answer
-  -- the input is answered under the game in the file
-  OfInput : (game : Game) → GivesGame file game → (answer : Answer)
-      → IsAnswerBy (job_under game logs) bytes answer
-      → IsAnswerUnder file logs bytes answer
+  NoGame : (answer : Answer) → GivesNoGame files.game answer
+      → IsAnswerUnder files command bytes answer
+  -- the command is answered under the game in the file
+  InGame : (game : Game) → GivesGame files.game game → (answer : Answer)
+      → IsAnswerBeside (in_formats_under game command) files.other bytes answer
+      → IsAnswerUnder files command bytes answer
 
--- the answer to a request, by its files and the bytes of the input; neither matters if hands are
--- generated
+-- the answer to a request, by its files and the bytes of the input
 abbrev pub IsAnswerIn : Request → Files → List ℕ → Answer → Type 0
-IsAnswerIn (Load seed hands) files bytes answer = IsSummed seed hands answer
-IsAnswerIn (Plain from command) files bytes answer =
-    IsAnswerBy (plain_job from command) bytes answer
-IsAnswerIn (Under name logs) files bytes answer = IsAnswerUnder files.game logs bytes answer
-IsAnswerIn (Compare sides file notes) files bytes answer =
-    IsComparedIn files sides notes bytes answer
+IsAnswerIn (Plain command) files bytes answer =
+    IsAnswerBeside (in_plain_formats command) files.other bytes answer
+IsAnswerIn (Under name command) files bytes answer = IsAnswerUnder files command bytes answer

@@ -3,10 +3,6 @@
 use Rattle.std.specs.Prelude.{◌==◌, ℕ, ◌+◌, Bool, if◌then◌else◌, List, [], ◌∷◌, ◌++◌, length, codes, Option, Some, None, option_map, ◌≡◌, ◌<◌, ◌≤◌}
 use Rattle.std.specs.Option.{option_or}
 use Rattle.std.specs.Fmt.{decimal}
-use Rattle.acpc_game.specs.declared.game.Game.{Game}
-use Rattle.command_words.specs.Words.{Compare, PlainSides, Request, Sides, SidesUnder}
-use Rattle.command_words.specs.declared.notation.NotationName.{NotationName}
-use Rattle.command_words.specs.declared.notation.PlainNotation.{PlainNotation}
 use Rattle.convert_core.specs.Conversion.{ReadAsPlays, ReadAsRefused}
 use Rattle.convert_core.specs.declared.format_fault.FormatFault.{FormatFault}
 use Rattle.convert_core.specs.declared.refusal.Refusal.{Refusal}
@@ -14,12 +10,8 @@ use Rattle.hand_differences.specs.DifferenceText.{difference_text}
 use Rattle.hand_differences.specs.FirstDifference.{PlainDifference, difference_said, first_difference}
 use Rattle.hand_canon.specs.declared.trace.Play.{Play}
 use Rattle.poker_cli.specs.AnswerParts.{Answer, IsAnswerTo, done, most_input, refusal, to_excess, to_fault, to_refusal}
-use Rattle.poker_cli.specs.Files.{Files}
-use Rattle.poker_cli.specs.GameFiles.{GivesGame, GivesNoGame}
 use Rattle.convert_core.specs.Formats.{HaveFault, SayRecords}
 use Rattle.poker_cli.specs.Limits.{excess_line}
-use Rattle.poker_cli.specs.Ways.{format_under, plain_format}
-use Rattle.poker_cli.specs.declared.compare.Comparison.{Comparison}
 use Rattle.poker_cli.specs.declared.compare.HandDifference.{HandDifference}
 use Rattle.poker_cli.specs.declared.status.Status.TheVariants as statuses
 use Rattle.convert_core.specs.declared.format.Format.{Format}
@@ -95,86 +87,6 @@ pub data IsComparedWith (other : Format) (notes : Bool) (file : List ℕ) (plays
   OtherPlayed : (others : List Play) → ReadAsPlays (SayRecords other file) others
       → IsComparedWith other notes file plays (compared notes plays others)
 
--- The answer to the bytes of an input whose hands are compared with those in the bytes of the other
--- file.
-pub data IsComparison (by : Comparison) (file bytes : List ℕ) : Answer → Type 0 where
-  -- the input is too long
-  InputTooLong : most_input < length bytes → IsComparison by file bytes to_excess
-  -- the input is within the limit; a fault of the input is reported before one of the other file
-  InputRead : length bytes ≤ most_input → (answer : Answer)
-      → IsAnswerTo (SayRecords by.from bytes) (HaveFault by.from bytes)
-      (IsComparedWith by.other by.notes file) answer
-      → IsComparison by file bytes answer
-
 -- the answer if the other file of a comparison is too long
 abbrev pub to_file_excess : Answer
 to_file_excess = refusal statuses.Limit (excess_line (codes "file bytes") most_input)
-
--- The answer to the bytes of an input whose hands are compared with those of the other file, if
--- that file is there.
-pub data IsComparedTo (by : Comparison) (file : Option (List ℕ)) (bytes : List ℕ) : Answer
-    → Type 0 where
-  -- the file is too long
-  OtherTooLong : (text : List ℕ) → file ≡ Some text → most_input < length text
-      → IsComparedTo by file bytes to_file_excess
-  -- the hands of both are compared
-  ToOther : (text : List ℕ) → file ≡ Some text → length text ≤ most_input → (answer : Answer)
-      → IsComparison by text bytes answer
-      → IsComparedTo by file bytes answer
-
--- how two files are compared if logs are read under a game
-abbrev pub comparison_under : Game → (from other : NotationName) → (notes : Bool) → Comparison
-comparison_under game from other notes =
-    record { from = format_under game from; other = format_under game other; notes = notes }
-
--- how two files are compared if neither is a log
-abbrev pub plain_comparison : (from other : PlainNotation) → (notes : Bool) → Comparison
-plain_comparison from other notes =
-    record { from = plain_format from; other = plain_format other; notes = notes }
-
--- The answer if two files are compared and logs are under the game in a game file.
-pub data IsComparedUnder (game_file : Option (List ℕ)) (from other : NotationName) (notes : Bool)
-    (file : Option (List ℕ))
-    (bytes : List ℕ) : Answer → Type 0 where
-  -- the game file gives no game
-  NoGameToCompare : (answer : Answer) → GivesNoGame game_file answer
-      → IsComparedUnder game_file from other notes file bytes answer
-  -- the files are compared under the game in the game file
-  ComparedInGame : (game : Game) → GivesGame game_file game → (answer : Answer)
-      → IsComparedTo (comparison_under game from other notes) file bytes answer
-      → IsComparedUnder game_file from other notes file bytes answer
-
--- the answer if the hands of an input are compared with those in the other file
-abbrev pub IsComparedIn : Files → Sides → (notes : Bool) → (bytes : List ℕ) → Answer → Type 0
-IsComparedIn files (PlainSides from other) notes bytes answer =
-    IsComparedTo (plain_comparison from other notes) files.other bytes answer
-IsComparedIn files (SidesUnder name from other) notes bytes answer =
-    IsComparedUnder files.game from other notes files.other bytes answer
-
--- how two files are compared if logs are under the game in a game file
-pub record IsComparisonUnder (game_file : Option (List ℕ)) (from other : NotationName)
-    (notes : Bool) (by : Comparison) : Type 0 where
-  pub game : Game
-  pub gives : GivesGame game_file game
-  pub same : by ≡ comparison_under game from other notes
-
--- how two files are compared, by the game file if one is named
-abbrev pub IsComparisonOf : (game : Option (List ℕ)) → Sides → (notes : Bool) → Comparison → Type 0
-IsComparisonOf game (PlainSides from other) notes by = by ≡ plain_comparison from other notes
-IsComparisonOf game (SidesUnder name from other) notes by =
-    IsComparisonUnder game from other notes by
-
--- The request is to compare hands in this way with those in the other file, which has these bytes
--- and is within the limit.
-pub record AsksToCompareWith (files : Files) (sides : Sides) (notes : Bool) (by : Comparison)
-    (text : List ℕ) : Type 0 where
-  pub comparison : IsComparisonOf files.game sides notes by
-  pub there : files.other ≡ Some text
-  pub short : length text ≤ most_input
-
--- the request is to compare hands with those in a file: both are read as `Comparison` says, and the
--- file has these bytes
-abbrev pub AsksToCompare : Files → Request → Comparison → (text : List ℕ) → Type 0
-AsksToCompare files (Compare sides file notes) by text =
-    AsksToCompareWith files sides notes by text
-AsksToCompare files request by text = ⊥

@@ -13,7 +13,7 @@ use Rattle.poker_cli.specs.Compare.{DifferentHand, to_different, to_other_count,
 use Rattle.poker_cli.specs.Headline.{IsPrinted}
 use Rattle.convert_core.specs.Formats.{SayRecords}
 use Rattle.poker_cli.specs.Run.{Sinks}
-use Rattle.poker_cli.specs.declared.compare.Comparison.{Comparison}
+use Rattle.convert_core.specs.declared.format.Format.{Format}
 use Rattle.poker_cli.specs.declared.status.Status.{Status}
 use Rattle.poker_cli.specs.declared.status.Status.TheVariants as statuses
 
@@ -55,27 +55,29 @@ pub data AreOther (notes : Bool) (plays others : List Play) : Answer → Type 0 
 
 -- The input, which is within the limit, and the file that it is compared with read as hands that
 -- are all legal and agree with what is stated of them; these are their plays.
-pub record BothRead (by : Comparison) (text bytes : List ℕ) (plays others : List Play) : Type 0
+pub record BothRead (from other : Format) (text bytes : List ℕ) (plays others : List Play) : Type 0
   where
     pub within : length bytes ≤ most_input
-    pub read : ReadAsPlays (SayRecords by.from bytes) plays
-    pub other : ReadAsPlays (SayRecords by.other text) others
+    pub read : ReadAsPlays (SayRecords from bytes) plays
+    pub reads : ReadAsPlays (SayRecords other text) others
 
 -- Both files read so and have the same hands, and the number of hands is appended to the output.
-pub record AreFoundSame (by : Comparison) (text bytes : List ℕ) (out : Sinks) : Type 0 where
+pub record AreFoundSame (from other : Format) (notes : Bool) (text bytes : List ℕ) (out : Sinks)
+    : Type 0 where
   pub plays : List Play
   pub others : List Play
-  pub both : BothRead by text bytes plays others
-  pub same : AreSame by.notes plays others
+  pub both : BothRead from other text bytes plays others
+  pub same : AreSame notes plays others
   pub written : Appends out.held out.holds (to_same (length plays)).output
 
 -- Both files read so and do not have the same hands, and their first difference is reported.
-pub record AreFoundOther (by : Comparison) (text bytes : List ℕ) (diag : Sinks) : Type 0 where
+pub record AreFoundOther (from other : Format) (notes : Bool) (text bytes : List ℕ) (diag : Sinks)
+    : Type 0 where
   pub plays : List Play
   pub others : List Play
-  pub both : BothRead by text bytes plays others
+  pub both : BothRead from other text bytes plays others
   pub answer : Answer
-  pub differ : AreOther by.notes plays others answer
+  pub differ : AreOther notes plays others answer
   pub shown : IsPrinted diag answer.line
 
 -- a status if two files that read so do not have the same hands: Differs, or a device could not be

@@ -1,6 +1,6 @@
 -- A request about hands that are all legal and agree with what is stated of them, and one about
 -- hands that answer each by itself.
-use Rattle.std.specs.Prelude.{◌≡◌, ℕ, ◌≤◌, List, length, Some}
+use Rattle.std.specs.Prelude.{◌≡◌, ℕ, ◌≤◌, List, length, Some, IfSome}
 use Rattle.card_set.specs.Refusal.{WasRefused}
 use Rattle.command_words.specs.Words.{Request}
 use Rattle.convert_core.specs.Conversion.{ReadAsPlays}
@@ -11,40 +11,39 @@ use Rattle.poker_cli.specs.AnswerParts.{most_input}
 use Rattle.poker_cli.specs.Each.{record_numbered}
 use Rattle.poker_cli.specs.Files.{Files}
 use Rattle.convert_core.specs.Formats.{SayRecords}
-use Rattle.poker_cli.specs.Ways.{IsWay, way}
+use Rattle.poker_cli.specs.Asked.{IsAsked}
 use Rattle.poker_cli.specs.declared.status.Status.{Status}
 use Rattle.poker_cli.specs.declared.status.Status.TheVariants as statuses
 use Rattle.convert_core.specs.declared.format.Format.{Format}
-use Rattle.command_words.specs.declared.command.Command.{Command}
-use Rattle.command_words.specs.declared.command.Command.TheVariants as commands
+use Rattle.command_words.specs.Command as commands
+use Rattle.command_words.specs.Command.{Command, input_of}
 use Rattle.command_words.specs.declared.command.EachQuestion.{EachQuestion}
 use Rattle.command_words.specs.declared.command.EachQuestion.TheVariants as of_each
 use Rattle.replay_core.specs.LegalPart.{IsLegalBeginning}
 
 -- the command prints something about all hands
 abbrev pub PrintsAll : Command Format → Type 0
-PrintsAll commands.Check = Unit {0}
-PrintsAll commands.Replay = Unit {0}
-PrintsAll commands.Report = Unit {0}
-PrintsAll commands.Session = Unit {0}
+PrintsAll (commands.Check from) = Unit {0}
+PrintsAll (commands.Replay from) = Unit {0}
+PrintsAll (commands.Report from) = Unit {0}
+PrintsAll (commands.Session from) = Unit {0}
 PrintsAll command = ⊥
 
--- The request asks this about the hands of an input, which is read in this notation and is within
--- the limit: it reads as hands that are all legal and agree with what is stated of them, and these
--- are the plays.
+-- The request asks for a command about an input that is within the limit: it reads as hands that
+-- are all legal and agree with what is stated of them, and these are the plays.
 pub record AsksOfLegal (files : Files) (request : Request) (command : Command Format)
-    (reader : Format) (bytes : List ℕ) (plays : List Play) : Type 0 where
-  pub asks : IsWay files request (way command reader)
+    (bytes : List ℕ) (plays : List Play) : Type 0 where
+  pub asks : IsAsked files request command
   pub within : length bytes ≤ most_input
-  pub read : ReadAsPlays (SayRecords reader bytes) plays
+  pub read : IfSome (input_of command) (λ reader. ReadAsPlays (SayRecords reader bytes) plays)
 
--- The request asks this about the hands of an input, legal or refused: the input is read in this
--- notation, is within the limit, and reads as these hands.
+-- The request asks for a command about an input that is within the limit and reads as these hands,
+-- legal or refused.
 pub record AsksOfHands (files : Files) (request : Request) (command : Command Format)
-    (reader : Format) (bytes : List ℕ) (records : List Record) : Type 0 where
-  pub asks : IsWay files request (way command reader)
+    (bytes : List ℕ) (records : List Record) : Type 0 where
+  pub asks : IsAsked files request command
   pub within : length bytes ≤ most_input
-  pub say : SayRecords reader bytes records
+  pub say : IfSome (input_of command) (λ reader. SayRecords reader bytes records)
 
 -- There is a hand with this number, and it has this number of events before its first illegal one,
 -- or more.

@@ -5,7 +5,8 @@ pub mod AcpcFaults
 pub mod AnswerParts
 pub mod Files
 pub mod GameFiles
-pub mod Ways
+pub mod NamedFormats
+pub mod Asked
 pub mod Options
 pub mod Equity
 pub mod Game
@@ -15,7 +16,7 @@ pub mod Judge
 pub mod Each
 pub mod Load
 pub mod Compare
-pub mod ComparedFiles
+pub mod OtherFile
 pub mod Answer
 pub mod FaultAnswers
 pub mod Texts

@@ -1,27 +1,33 @@
 -- Why a request has no answer, and what a reply does to the source and the devices.
-use Rattle.std.specs.Prelude.{◌≡◌, ℕ, List, Option, Result, Ok, Err}
+use Rattle.std.specs.Prelude.{◌≡◌, ◌⊎◌, ℕ, true, List, Option, IsSome, Result, Ok, Err}
 use Rattle.command_words.specs.Words.{Request}
 use Rattle.host_io.specs.Faults.{Rose}
 use Rattle.poker_cli.specs.Files.{FilesByName}
-use Rattle.poker_cli.specs.Run.{AsksForFile, IsFileMissing, IsGameMissing, IsOwn, IsWithoutFile, ReadsHands, ReadsNothing, WhereShown}
+use Rattle.poker_cli.specs.Run.{AsksForFile, IsOwn, IsWithout, MissesFile, MissesGame, Needs, ReadsNothing, WhereNeeded, needs_of}
 use Rattle.poker_cli.specs.declared.answer.Answer as made
 use Rattle.poker_cli.specs.declared.no_answer.NoAnswerError.{NoAnswerError}
 use Rattle.poker_cli.specs.declared.no_answer.NoAnswerError.TheVariants as whys
 
--- A request has no answer for this reason, by the bytes that a source has left and the files on a
--- shelf: the input was to be read and no file was missing, or the shelf failed, or a file that is
--- asked for is not there. Nothing is known of them if memory ran out.
+-- There is no answer for this reason, by what is needed, the bytes that a source has left and the
+-- files on a shelf: the input was to be read and no file was missing, or the shelf failed, or a file
+-- that is needed is not there. Nothing is known of them if memory ran out.
+abbrev pub HasNoReply : Needs → (left : Option (List ℕ)) → (shown : Option FilesByName)
+    → NoAnswerError → Type 0
+HasNoReply needs left shown whys.ReadFault =
+    WhereNeeded needs left shown (λ files bytes.
+    (needs.input ≡ true) × (IsWithout needs files → ⊥))
+HasNoReply needs left shown whys.ShelfFault = IsSome needs.game ⊎ IsSome needs.other
+HasNoReply needs left shown whys.GameMissing =
+    WhereNeeded needs left shown (λ files bytes. MissesGame needs files)
+HasNoReply needs left shown whys.FileMissing =
+    WhereNeeded needs left shown (λ files bytes. MissesFile needs files)
+HasNoReply needs left shown (whys.Memory memory) = Unit {0}
+
+-- a request has no answer for this reason
 abbrev pub HasNoAnswer : Request → (left : Option (List ℕ)) → (shown : Option FilesByName)
     → NoAnswerError → Type 0
-HasNoAnswer request left shown whys.ReadFault =
-    WhereShown request left shown (λ files bytes.
-    ReadsHands request × (IsWithoutFile request files → ⊥))
 HasNoAnswer request left shown whys.ShelfFault = AsksForFile request
-HasNoAnswer request left shown whys.GameMissing =
-    WhereShown request left shown (λ files bytes. IsGameMissing request files)
-HasNoAnswer request left shown whys.FileMissing =
-    WhereShown request left shown (λ files bytes. IsFileMissing request files)
-HasNoAnswer request left shown (whys.Memory memory) = Unit {0}
+HasNoAnswer request left shown why = HasNoReply (needs_of request) left shown why
 
 -- What holds after a reply, whether it is an answer or a reason why there is none: the status of an
 -- answer is one that an answer can have, a device fault is reported only if its count of faults

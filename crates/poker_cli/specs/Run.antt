@@ -1,9 +1,10 @@
 -- How a run of the program ends: its status, its output and its diagnostic line.
-use Rattle.std.specs.Prelude.{◌≡◌, ◌≢◌, ◌⊎◌, ℕ, ◌<◌, List, [], length, codes, Option, Some, None, IfSome, unwrap_or}
+use Rattle.std.specs.Prelude.{◌≡◌, ◌≢◌, ◌⊎◌, ℕ, ◌<◌, Bool, true, false, List, [], length, codes, Option, Some, None, IfSome, option_and_then, unwrap_or}
 use Rattle.std.specs.Io.KnownBytes.{Appends}
 use Rattle.acpc_game.specs.declared.game.Game.{Game}
 use Rattle.card_set.specs.Refusal.{WasRefused}
-use Rattle.command_words.specs.Words.{Load, Plain, Request, Sides, Under, Compare, PlainSides, SidesUnder}
+use Rattle.command_words.specs.Command.{Command, file_of, names_log, reads_file, reads_input}
+use Rattle.command_words.specs.Words.{Plain, Request, Under}
 use Rattle.host_io.specs.Faults.{Rose}
 use Rattle.host_io.specs.Bytes.{AppendsPart}
 use Rattle.poker_cli.specs.declared.entry.TheConstants.{USAGE}
@@ -64,10 +65,6 @@ abbrev pub change_of : {K : Type 0} → (K → Option (List ℕ)) → (K → ℕ
 change_of held faults old new =
     record { held = held old; holds = held new; before = faults old; now = faults new }
 
--- a request that names no file
-abbrev pub no_files : Files
-no_files = record { game = None; other = None }
-
 -- What holds of the bytes that a source has left; if the source does not show them, it holds of
 -- some bytes.
 abbrev pub OfBytes : Option (List ℕ) → (List ℕ → Type 0) → Type 0
@@ -80,57 +77,78 @@ abbrev pub OfFile : Option FilesByName → (name : List ℕ) → (Option (List �
 OfFile (Some files) name P = P (files name)
 OfFile None name P = (file : Option (List ℕ)) × P file
 
--- what holds of the game file of a comparison, if one is named
-abbrev pub OfGameFile : Option FilesByName → Sides → (Option (List ℕ) → Type 0) → Type 0
-OfGameFile shown (PlainSides from other) P = P None
-OfGameFile shown (SidesUnder name from other) P = OfFile shown name P
-
--- What holds of the files and the bytes of a request. If the source does not show its bytes, it
--- holds of some bytes, and if the shelf does not show its files, of some files: one for each name
--- that is asked for, even if a name is asked for twice. If hands are generated, neither is needed,
--- and if no log is read or written and nothing is compared, the shelf is not needed.
-abbrev pub WhereShown : Request → Option (List ℕ) → Option FilesByName → (Files → List ℕ → Type 0)
+-- what holds of the file of a name, if one is named
+abbrev pub OfNamed : Option FilesByName → (name : Option (List ℕ)) → (Option (List ℕ) → Type 0)
     → Type 0
-WhereShown (Load seed hands) left shown P = P no_files []
-WhereShown (Plain from command) left shown P = OfBytes left (P no_files)
-WhereShown (Under name logs) left shown P =
-    OfFile shown name (λ game. OfBytes left (P (record { game = game; other = None })))
-WhereShown (Compare sides name notes) left shown P =
-    OfGameFile shown sides (λ game. OfFile shown name (λ other.
+OfNamed shown None P = P None
+OfNamed shown (Some name) P = OfFile shown name P
+
+-- What a request needs: its game file and its other file, by their names, and whether it reads the
+-- input.
+pub record Needs : Type 0 where
+  pub game : Option (List ℕ)
+  pub other : Option (List ℕ)
+  pub input : Bool
+
+-- what a command needs, with the name of a game file or without one
+abbrev pub needs : {N : Type 0} → (game : Option (List ℕ)) → Command N → Needs
+needs game command =
+    record { game = game; other = file_of command; input = reads_input command }
+
+-- what a request needs
+abbrev pub needs_of : Request → Needs
+needs_of (Plain command) = needs None command
+needs_of (Under game command) = needs (Some game) command
+
+-- What holds of the files and the bytes that are needed. If the source does not show its bytes, it
+-- holds of some bytes, and if the shelf does not show its files, of some files: one for each name
+-- that is asked for, even if a name is asked for twice.
+abbrev pub WhereNeeded : Needs → Option (List ℕ) → Option FilesByName
+    → (Files → List ℕ → Type 0) → Type 0
+WhereNeeded needs left shown P =
+    OfNamed shown needs.game (λ game. OfNamed shown needs.other (λ other.
     OfBytes left (P (record { game = game; other = other }))))
 
--- the request generates hands
+-- the same of a request
+abbrev pub WhereShown : Request → Option (List ℕ) → Option FilesByName → (Files → List ℕ → Type 0)
+    → Type 0
+WhereShown request left shown P = WhereNeeded (needs_of request) left shown P
+
+-- the request reads no input: it generates hands
 abbrev pub MakesHands : Request → Type 0
-MakesHands (Load seed hands) = Unit {0}
-MakesHands request = ⊥
+MakesHands request = (needs_of request).input ≡ false
 
 -- the request reads hands
 abbrev pub ReadsHands : Request → Type 0
-ReadsHands (Load seed hands) = ⊥
-ReadsHands request = Unit {0}
+ReadsHands request = (needs_of request).input ≡ true
 
--- the request needs a file from the shelf
+-- the request needs a file from the shelf: another file, or a game file, since one of its notations
+-- is that of logs
 abbrev pub AsksForFile : Request → Type 0
-AsksForFile (Under name logs) = Unit {0}
-AsksForFile (Compare sides file notes) = Unit {0}
-AsksForFile request = ⊥
+AsksForFile (Plain command) = reads_file command ≡ true
+AsksForFile (Under name command) = names_log command ≡ true
 
 -- the game file gives a game, if the shelf shows its files
 abbrev pub GivesSome : Option FilesByName → (name : List ℕ) → Type 0
 GivesSome shown name = IfSome shown (λ files. (found : Game) × GivesGame (files name) found)
 
--- The names that a request asks the shelf for, each once and in order: that of the game file, and
--- that of the file to compare with, which is asked for only if the game file gives a game. `Asked`
--- relates the shelf before and after one name was asked for.
-abbrev pub Asks : {H : Type 0} → (Asked : H → H → List ℕ → Type 0) → Option FilesByName → Request
-    → (shelf seen : H) → Type 0
-Asks Asked shown (Load seed hands) shelf seen = seen ≡ shelf
-Asks Asked shown (Plain from command) shelf seen = seen ≡ shelf
-Asks Asked shown (Under game logs) shelf seen = Asked shelf seen game
-Asks Asked shown (Compare (PlainSides from other) file notes) shelf seen = Asked shelf seen file
-Asks {H} Asked shown (Compare (SidesUnder game from other) file notes) shelf seen =
+-- The shelf is asked for a game file and for another file, if they are named, each once and in this
+-- order; and for the other file only if the game file gives a game. `Asked` relates the shelf
+-- before and after one name was asked for.
+abbrev pub AsksInOrder : {H : Type 0} → (Asked : H → H → List ℕ → Type 0) → Option FilesByName
+    → (game other : Option (List ℕ)) → (shelf seen : H) → Type 0
+AsksInOrder Asked shown None None shelf seen = seen ≡ shelf
+AsksInOrder Asked shown None (Some file) shelf seen = Asked shelf seen file
+AsksInOrder Asked shown (Some game) None shelf seen = Asked shelf seen game
+AsksInOrder {H} Asked shown (Some game) (Some file) shelf seen =
     (between : H) × (Asked shelf between game
     × ((seen ≡ between) ⊎ (GivesSome shown game × Asked between seen file)))
+
+-- the names that a request asks the shelf for
+abbrev pub Asks : {H : Type 0} → (Asked : H → H → List ℕ → Type 0) → Option FilesByName → Request
+    → (shelf seen : H) → Type 0
+Asks Asked shown request shelf seen =
+    AsksInOrder Asked shown (needs_of request).game (needs_of request).other shelf seen
 
 -- the names that a run with this status asks the shelf for: those of the request; none if the words
 -- are no request or memory ran out before
@@ -140,18 +158,33 @@ AsksInTurn Asked shown None status shelf seen = seen ≡ shelf
 AsksInTurn Asked shown (Some request) status shelf seen =
     Asks Asked shown request shelf seen ⊎ ((status ≡ statuses.Memory) × (seen ≡ shelf))
 
+-- a file that is named is not there
+abbrev pub IsMissing : (name file : Option (List ℕ)) → Type 0
+IsMissing None file = ⊥
+IsMissing (Some name) file = file ≡ None
+
+-- the game file gives its game, if one is named
+abbrev pub IsGameGiven : (name file : Option (List ℕ)) → Type 0
+IsGameGiven None file = Unit {0}
+IsGameGiven (Some name) file = (found : Game) × GivesGame file found
+
+-- the game file that is needed is not there
+abbrev pub MissesGame : Needs → Files → Type 0
+MissesGame needs files = IsMissing needs.game files.game
+
+-- the other file that is needed is not there; the game file, if one is named, gives its game
+abbrev pub MissesFile : Needs → Files → Type 0
+MissesFile needs files =
+    IsGameGiven needs.game files.game × IsMissing needs.other files.other
+
 -- the game file that the request names is not there
 abbrev pub IsGameMissing : Request → Files → Type 0
-IsGameMissing (Under name logs) files = files.game ≡ None
-IsGameMissing (Compare (SidesUnder name from other) file notes) files = files.game ≡ None
-IsGameMissing request files = ⊥
+IsGameMissing request files = MissesGame (needs_of request) files
 
--- the file to compare with is not there; the game file, if one is named, gives its game
+-- the other file that the request names is not there; the game file, if one is named, gives its
+-- game
 abbrev pub IsFileMissing : Request → Files → Type 0
-IsFileMissing (Compare (PlainSides from other) file notes) files = files.other ≡ None
-IsFileMissing (Compare (SidesUnder name from other) file notes) files =
-    ((found : Game) × GivesGame files.game found) × (files.other ≡ None)
-IsFileMissing request files = ⊥
+IsFileMissing request files = MissesFile (needs_of request) files
 
 -- a game file is not there, or gives no game
 abbrev pub GivesNone : Option (List ℕ) → Type 0
@@ -162,21 +195,37 @@ abbrev pub IsNotThere : Option (List ℕ) → Type 0
 IsNotThere file =
     (file ≡ None) ⊎ ((text : List ℕ) × ((file ≡ Some text) × (most_input < length text)))
 
--- the game file is not there or gives no game, or the file to compare with is not there or too long
-abbrev pub IsWithoutFile : Request → Files → Type 0
-IsWithoutFile (Under name logs) files = GivesNone files.game
-IsWithoutFile (Compare (PlainSides from other) file notes) files = IsNotThere files.other
-IsWithoutFile (Compare (SidesUnder name from other) file notes) files =
-    GivesNone files.game ⊎ IsNotThere files.other
-IsWithoutFile request files = ⊥
+-- a file that is named cannot be used
+abbrev pub IsUseless : (Option (List ℕ) → Type 0) → (name file : Option (List ℕ)) → Type 0
+IsUseless Useless None file = ⊥
+IsUseless Useless (Some name) file = Useless file
 
--- the shelf shows that a file that is asked for is not there, or cannot be used
+-- the game file that is needed is not there or gives no game, or the other file that is needed is
+-- not there or too long
+abbrev pub IsWithout : Needs → Files → Type 0
+IsWithout needs files =
+    IsUseless GivesNone needs.game files.game ⊎ IsUseless IsNotThere needs.other files.other
+
+-- the same of a request
+abbrev pub IsWithoutFile : Request → Files → Type 0
+IsWithoutFile request files = IsWithout (needs_of request) files
+
+-- the files of these names on a shelf
+abbrev pub files_named : FilesByName → Needs → Files
+files_named files needs =
+    record {
+      game = option_and_then files needs.game;
+      other = option_and_then files needs.other;
+    }
+
+-- the shelf shows that a file that is needed is not there, or cannot be used
+abbrev pub Lacks : Needs → Option FilesByName → Type 0
+Lacks needs None = ⊥
+Lacks needs (Some files) = IsWithout needs (files_named files needs)
+
+-- the same of a request
 abbrev pub LacksFile : Request → Option FilesByName → Type 0
-LacksFile (Under name logs) (Some files) = GivesNone (files name)
-LacksFile (Compare (PlainSides from other) file notes) (Some files) = IsNotThere (files file)
-LacksFile (Compare (SidesUnder game from other) file notes) (Some files) =
-    GivesNone (files game) ⊎ IsNotThere (files file)
-LacksFile request shown = ⊥
+LacksFile request shown = Lacks (needs_of request) shown
 
 -- A run that got to its answer: the answer to its files and its input, the status that follows from
 -- it, what was written of its output, and its line.

@@ -1,19 +1,21 @@
 //! The answer to the bytes of an input: how they are read, and what is done with their hands.
 ghost use Rattle.std.specs.Prelude.{◌≡◌, ◌≤◌, Some, length, IfOk, string_bytes};
 ghost use Rattle.poker_cli.specs.AnswerParts as definition;
-ghost use Rattle.poker_cli.specs.Answer.{IsAnswer, IsAnswerOf};
+ghost use Rattle.command_words.specs.Command.{command_in};
+ghost use Rattle.poker_cli.specs.Answer.{IsAnswer};
 ghost use Rattle.poker_cli.specs.AnswerParts.{most_input};
 ghost use Rattle.convert_core.specs.Faults.{excess_of};
-ghost use Rattle.convert_core.specs.Formats.{HaveFault, SayRecords, first_lines};
 ghost use Rattle.poker_cli.specs.FaultAnswers.{IsFaultAnswer, IsPlaysFaultAnswer, IsTextAnswer, answer_said};
 
 use crate::check::answer_with_check;
+use crate::compare::answer_with_comparison;
 use crate::convert::answer_with_hands;
 use crate::each_answer::answer_with_each;
 use crate::equity::answer_with_equity;
 use crate::game::answer_with_game;
 use crate::judge::answer_with_verdicts;
 use crate::limits::{excess_line, limit_line};
+use crate::load::answer_to_load;
 use crate::options::answer_with_options;
 use crate::replay::answer_with_replay;
 use crate::report::answer_with_report;
@@ -38,41 +40,38 @@ pub struct Answer {
 /// The most bytes of an input, and of a game file.
 pub const MOST_INPUT: usize = 16_777_216;
 
-/// The answer to a command about an input within the limit of bytes, read as `reader`.
+/// The answer to a command about an input within the limit of bytes; `file` is the other file that
+/// the command reads, if it reads one.
 pub fn answer_to(
     alloc: Global,
     command: Command<Format>,
-    reader: &Format,
+    file: &[u8],
     bytes: &[u8],
 ) -> Result<Answer, Memory>
     requires { length bytes.now ≤ most_input }
-    ensures { IfOk result (λ answer. IsAnswer command reader.now bytes.now (answer_said answer)) }
-{
-    answer_from(alloc, command, reader, bytes)
-}
-
-// The answer to a command about the hands in the bytes.
-fn answer_from(
-    alloc: Global,
-    command: Command<Format>,
-    from: &Format,
-    bytes: &[u8],
-) -> Result<Answer, Memory>
-    ensures { IfOk result (λ answer. IsAnswerOf command from.now (SayRecords from.now bytes.now)
-        (HaveFault from.now bytes.now) (first_lines from.now bytes.now) (answer_said answer)) }
+    ensures { IfOk result (λ answer.
+        IsAnswer (command_in file.now command) bytes.now (answer_said answer)) }
 {
     match command {
-        Command::Check => answer_with_check(alloc, from, bytes),
-        Command::Replay => answer_with_replay(alloc, from, bytes),
-        Command::Report => answer_with_report(alloc, from, bytes),
-        Command::Session => answer_with_session(alloc, from, bytes),
-        Command::Game => answer_with_game(alloc, from, bytes),
-        Command::Options { hand, events } => answer_with_options(alloc, hand, events, from, bytes),
-        Command::Equity { hand, street } => answer_with_equity(alloc, hand, street, from, bytes),
-        Command::Judge { lines } => answer_with_verdicts(alloc, lines, from, bytes),
-        Command::Views { seat } => answer_with_messages(alloc, seat, from, bytes),
-        Command::Each(question) => answer_with_each(alloc, question, from, bytes),
-        Command::Convert { to, keep } => answer_with_hands(alloc, from, &to, keep, bytes),
+        Command::Check { from } => answer_with_check(alloc, &from, bytes),
+        Command::Replay { from } => answer_with_replay(alloc, &from, bytes),
+        Command::Report { from } => answer_with_report(alloc, &from, bytes),
+        Command::Session { from } => answer_with_session(alloc, &from, bytes),
+        Command::Game { from } => answer_with_game(alloc, &from, bytes),
+        Command::Options { from, hand, events } => {
+            answer_with_options(alloc, hand, events, &from, bytes)
+        }
+        Command::Equity { from, hand, street } => {
+            answer_with_equity(alloc, hand, street, &from, bytes)
+        }
+        Command::Judge { from, lines } => answer_with_verdicts(alloc, lines, &from, bytes),
+        Command::Views { from, seat } => answer_with_messages(alloc, seat, &from, bytes),
+        Command::Each { from, question } => answer_with_each(alloc, question, &from, bytes),
+        Command::Convert { from, to, keep } => answer_with_hands(alloc, &from, &to, keep, bytes),
+        Command::Compare { from, other, notes } => {
+            answer_with_comparison(alloc, &other, notes, file, &from, bytes)
+        }
+        Command::Load { seed, hands } => answer_to_load(alloc, seed, hands),
     }
 }
 

@@ -1,33 +1,19 @@
-//! Compares the hands of an input with those of another file, or reports what is wrong with one of
-//! the two.
-ghost use Rattle.std.specs.Prelude.{◌≡◌, ◌≤◌, ◌+◌, All, length, option_map, IfOk};
+//! Answers `compare`: whether the hands of the input are those of another file, or what is wrong
+//! with one of the two.
+ghost use Rattle.std.specs.Prelude.{◌≡◌, ◌+◌, All, length, option_map, IfOk};
+ghost use Rattle.convert_core.specs.Formats.{HaveFault, SayRecords};
 ghost use Rattle.hand_canon.specs.Sound.{IsSound};
-ghost use Rattle.poker_cli.specs.Compare as definition;
-ghost use Rattle.poker_cli.specs.AnswerParts.{most_input};
-ghost use Rattle.poker_cli.specs.Compare.{IsComparedWith, IsComparison, compared, first_different as first_different_said, hand_difference_said, in_file as in_file_said, to_different as to_different_said, to_other_count as to_other_count_said, to_same as to_same_said};
+ghost use Rattle.poker_cli.specs.AnswerParts.{IsAnswerTo};
+ghost use Rattle.poker_cli.specs.Compare.{IsComparedWith, compared, first_different as first_different_said, hand_difference_said, in_file as in_file_said, to_different as to_different_said, to_other_count as to_other_count_said, to_same as to_same_said};
 ghost use Rattle.poker_cli.specs.FaultAnswers.{answer_said};
 
 use crate::answer::{Answer, answer_to_fault, done_with, refusal};
 use crate::status::Status;
-use crate::ways::{format_under, plain_format};
-use acpc_game::Game;
 use card_set::{Memory, try_format};
-use command_words::{NotationName, PlainNotation};
 use convert_core::{Format, plays as plays_in};
 use hand_canon::Play;
 use hand_differences::{Difference, difference_text, first_difference};
 use std::alloc::Global;
-
-/// How the hands of two files are compared.
-#[derive(Clone, Copy, Debug, PartialEq, Eq)]
-pub struct Comparison {
-    /// How the input is read.
-    pub from: Format,
-    /// How the other file is read.
-    pub other: Format,
-    /// Whether notes are compared.
-    pub notes: bool,
-}
 
 /// A hand that differs from the hand with the same number in the other file.
 #[derive(Clone, Copy, Debug, PartialEq, Eq)]
@@ -38,46 +24,23 @@ pub struct HandDifference {
     pub difference: Difference,
 }
 
-/// How two files are compared if neither is a log.
-pub fn plain_comparison(from: PlainNotation, other: PlainNotation, notes: bool) -> Comparison
-    ensures { result ≡ definition.plain_comparison from other notes }
-{
-    Comparison {
-        from: plain_format(from),
-        other: plain_format(other),
-        notes,
-    }
-}
-
-/// How two files are compared if logs are read under a game.
-pub fn comparison_under(
-    game: Game,
-    from: NotationName,
-    other: NotationName,
-    notes: bool,
-) -> Comparison
-    ensures { result ≡ definition.comparison_under game from other notes }
-{
-    Comparison {
-        from: format_under(game, from),
-        other: format_under(game, other),
-        notes,
-    }
-}
-
-/// The answer to an input within the limit of bytes whose hands are compared with those of another
-/// file. A fault of the input is reported before a fault of the other file.
-pub fn answer_to_comparison(
+/// The answer to an input whose hands are compared with those of another file, in the notation
+/// `other`; notes are compared only if `notes` is true. A fault of the input is reported before a
+/// fault of the other file.
+pub fn answer_with_comparison(
     alloc: Global,
-    by: &Comparison,
+    other: &Format,
+    notes: bool,
     file: &[u8],
+    from: &Format,
     bytes: &[u8],
 ) -> Result<Answer, Memory>
-    requires { length bytes.now ≤ most_input }
-    ensures { IfOk result (λ answer. IsComparison by.now file.now bytes.now (answer_said answer)) }
+    ensures { IfOk result (λ answer. IsAnswerTo (SayRecords from.now bytes.now)
+        (HaveFault from.now bytes.now) (IsComparedWith other.now notes file.now)
+        (answer_said answer)) }
 {
-    match plays_in(alloc, &by.from, bytes) {
-        Ok(plays) => answer_beside(alloc, by, file, &plays),
+    match plays_in(alloc, from, bytes) {
+        Ok(plays) => answer_beside(alloc, other, notes, file, &plays),
         Err(fault) => answer_to_fault(alloc, &fault),
     }
 }
@@ -85,16 +48,17 @@ pub fn answer_to_comparison(
 // The answer to the plays of the input, which are compared with the hands of the other file.
 fn answer_beside(
     alloc: Global,
-    by: &Comparison,
+    other: &Format,
+    notes: bool,
     file: &[u8],
     plays: &[Play],
 ) -> Result<Answer, Memory>
     requires sound { All IsSound plays.now }
     ensures { IfOk result (λ answer.
-        IsComparedWith by.now.other by.now.notes file.now plays.now (answer_said answer)) }
+        IsComparedWith other.now notes file.now plays.now (answer_said answer)) }
 {
-    match plays_in(alloc, &by.other, file) {
-        Ok(others) => answer_to_both(alloc, by.notes, plays, &others),
+    match plays_in(alloc, other, file) {
+        Ok(others) => answer_to_both(alloc, notes, plays, &others),
         Err(fault) => {
             let answer = answer_to_fault(alloc, &fault)?;
             in_file(alloc, answer)

@@ -1,26 +1,25 @@
 //! The entry point: from the words of the command line and the input to the status, the output and
 //! the diagnostic line.
-ghost use Rattle.std.specs.Prelude.{◌≡◌, ◌↔◌, [], map, None, Some, IfErr, IfOk, IfSome, IsErrOf, string_bytes};
+ghost use Rattle.std.specs.Prelude.{◌≡◌, ◌↔◌, [], map, true, false, None, Some, IfErr, IfOk, IfSome, IsErrOf, string_bytes};
 ghost use Rattle.card_set.specs.Refusal.{WasRefused};
-ghost use Rattle.command_words.specs.Requests.{request_in};
-ghost use Rattle.command_words.specs.Words.{Under, request_said};
+ghost use Rattle.command_words.specs.Command.{command_in, file_of, reads_file, reads_input};
+ghost use Rattle.command_words.specs.Requests.{log_command_in, request_in};
+ghost use Rattle.command_words.specs.Words.{request_said};
 ghost use Rattle.host_io.specs.Faults.{Rose};
-ghost use Rattle.poker_cli.specs.Answer.{IsAnswerBy, IsAnswerIn, IsAnswerUnder};
+ghost use Rattle.poker_cli.specs.Answer.{IsAnswer, IsAnswerBeside, IsAnswerIn, IsAnswerUnder};
 ghost use Rattle.poker_cli.specs.Headline.{EndsOver};
-ghost use Rattle.poker_cli.specs.Replied.{ComesFirst, HasNoAnswer, Keeps};
-ghost use Rattle.poker_cli.specs.Run.{Asks, AsksInTurn, EndsLeaving, GivesNone, IsOwn, LacksFile, Leaves, MakesHands, MayEnd, OfBytes, OfFile, PrintsLine, Reports, WhereShown, Writes, WritesNothing, change_of, line_of};
+ghost use Rattle.poker_cli.specs.Replied.{ComesFirst, HasNoAnswer, HasNoReply, Keeps};
+ghost use Rattle.poker_cli.specs.Run.{Asks, AsksInOrder, AsksInTurn, EndsLeaving, IsNotThere, IsOwn, Lacks, LacksFile, Leaves, MakesHands, MayEnd, OfBytes, OfFile, PrintsLine, Reports, WhereNeeded, WhereShown, Writes, WritesNothing, change_of, line_of, needs};
 ghost use Rattle.poker_cli.specs.FaultAnswers.{answer_said};
 
 use crate::answer::{self, Answer, MOST_INPUT};
-use crate::compared_files::reply_to_comparison;
 use crate::game_files::{NoGameError, fetch_game, game_file_answer};
-use crate::load::answer_to_load;
+use crate::named_formats::{in_formats_under, in_plain_formats};
 use crate::no_answer::NoAnswerError;
+use crate::other_file::{NoFileError, answer_to_long_file, fetch_file};
 use crate::status::Status;
-use crate::task::Job;
-use crate::ways::{job_under, plain_job};
-use card_set::Memory;
-use command_words::{Logs, Request, read_words};
+use command_words::{Command, LogCommand, Request, read_words};
+use convert_core::Format;
 use host_io::{Failed, InFault, Shelf, Sink, Source, read_all, write_all};
 use std::alloc::Global;
 
@@ -138,8 +137,7 @@ fn run_request<S: Source, H: Shelf, K: Sink, D: Sink>(
     }
 }
 
-// The answer to a request: to hands that are generated, or else by the game file and by all that
-// the source has left.
+// The answer to a request, by its files and by all that the source has left.
 fn reply<S: Source, H: Shelf>(
     alloc: Global,
     request: Request<'_>,
@@ -159,36 +157,42 @@ fn reply<S: Source, H: Shelf>(
     ensures without_input { MakesHands (request_in request.entry) → input.new ≡ input.old }
 {
     match request {
-        Request::Load { seed, hands } => Ok(answer_to_load(alloc, seed, hands)?),
-        Request::Plain { from, command } => reply_with(alloc, plain_job(from, command), input),
-        Request::Under { game, logs } => reply_under(alloc, game, logs, input, shelf),
-        Request::Compare { sides, file, notes } => {
-            reply_to_comparison(alloc, sides, file, notes, input, shelf)
+        Request::Plain { command, file } => {
+            reply_beside(alloc, in_plain_formats(command), file, input, shelf)
         }
+        Request::Under(log) => reply_under(alloc, log, input, shelf),
     }
 }
 
-// The answer if logs are read under the game in the game file, from all that the source has left.
+// The answer to a command about logs: the shelf is asked for the game file first, and for the other
+// file only if the game file gives a game.
 fn reply_under<S: Source, H: Shelf>(
     alloc: Global,
-    name: &str,
-    logs: Logs,
+    log: LogCommand<'_>,
     input: &mut S,
     shelf: &mut H,
 ) -> Result<Answer, NoAnswerError>
-    ensures answer { IfOk result (λ answer. OfFile (H.files shelf.old) name.now (λ file.
-        OfBytes (S.left input.old) (λ bytes.
-        IsAnswerUnder file logs bytes (answer_said answer)))) }
+    ensures answer { IfOk result (λ answer.
+        WhereNeeded (needs (Some log.entry.game.now) (log_command_in log.entry))
+        (S.left input.old) (H.files shelf.old) (λ files bytes.
+        IsAnswerUnder files (log_command_in log.entry) bytes (answer_said answer))) }
     ensures none { IfErr result (λ why.
-        HasNoAnswer (Under name.now logs) (S.left input.old) (H.files shelf.old) why) }
+        HasNoReply (needs (Some log.entry.game.now) (log_command_in log.entry))
+        (S.left input.old) (H.files shelf.old) why) }
     ensures kept { Keeps input.old input.new (S.faults input.old, S.faults input.new)
         (H.faults shelf.old, H.faults shelf.new) result }
-    ensures asked { H.Asked shelf.old shelf.new name.now }
-    ensures without_game { IfSome (H.files shelf.old) (λ files.
-        GivesNone (files name.now) → input.new ≡ input.old) }
+    ensures asks { AsksInOrder H.Asked (H.files shelf.old) (Some log.entry.game.now)
+        (file_of (log_command_in log.entry)) shelf.old shelf.new }
+    ensures without_file { Lacks (needs (Some log.entry.game.now) (log_command_in log.entry))
+        (H.files shelf.old) → input.new ≡ input.old }
+    ensures without_input { reads_input (log_command_in log.entry) ≡ false
+        → input.new ≡ input.old }
 {
-    match fetch_game(alloc, shelf, name) {
-        Ok(game) => reply_with(alloc, job_under(game, logs), input),
+    match fetch_game(alloc, shelf, log.game) {
+        Ok(game) => {
+            let command = in_formats_under(game, log.command);
+            reply_beside(alloc, command, log.file, input, shelf)
+        }
         Err(NoGameError::Lacking(lack)) => Ok(game_file_answer(alloc, lack)?),
         Err(NoGameError::Missing) => Err(NoAnswerError::GameMissing),
         Err(NoGameError::ShelfFault) => Err(NoAnswerError::ShelfFault),
@@ -196,16 +200,92 @@ fn reply_under<S: Source, H: Shelf>(
     }
 }
 
-// The answer to all that the source has left, read and handled as `way` says.
-fn reply_with<S: Source>(alloc: Global, way: Job, input: &mut S) -> Result<Answer, NoAnswerError>
+// The answer to a command, by the file of this name if the command reads another file, and by all
+// that the source has left.
+fn reply_beside<S: Source, H: Shelf>(
+    alloc: Global,
+    command: Command<Format>,
+    name: &str,
+    input: &mut S,
+    shelf: &mut H,
+) -> Result<Answer, NoAnswerError>
+    ensures answer { IfOk result (λ answer.
+        WhereNeeded (needs None (command_in name.now command))
+        (S.left input.old) (H.files shelf.old) (λ files bytes.
+        IsAnswerBeside (command_in name.now command) files.other bytes (answer_said answer))) }
+    ensures none { IfErr result (λ why. HasNoReply (needs None (command_in name.now command))
+        (S.left input.old) (H.files shelf.old) why) }
+    ensures kept { Keeps input.old input.new (S.faults input.old, S.faults input.new)
+        (H.faults shelf.old, H.faults shelf.new) result }
+    ensures asks { AsksInOrder H.Asked (H.files shelf.old) None
+        (file_of (command_in name.now command)) shelf.old shelf.new }
+    ensures without_file { Lacks (needs None (command_in name.now command)) (H.files shelf.old)
+        → input.new ≡ input.old }
+    ensures without_input { reads_input (command_in name.now command) ≡ false
+        → input.new ≡ input.old }
+{
+    if command.reads_file() {
+        reply_with_file(alloc, command, name, input, shelf)
+    } else {
+        reply_with(alloc, command, b"", input)
+    }
+}
+
+// The answer to a command that reads the file of this name, and all that the source has left.
+fn reply_with_file<S: Source, H: Shelf>(
+    alloc: Global,
+    command: Command<Format>,
+    name: &str,
+    input: &mut S,
+    shelf: &mut H,
+) -> Result<Answer, NoAnswerError>
+    requires { reads_file (command_in name.now command) ≡ true }
+    ensures answer { IfOk result (λ answer. OfFile (H.files shelf.old) name.now (λ file.
+        OfBytes (S.left input.old) (λ bytes.
+        IsAnswerBeside (command_in name.now command) file bytes (answer_said answer)))) }
+    ensures kept { Keeps input.old input.new (S.faults input.old, S.faults input.new)
+        (H.faults shelf.old, H.faults shelf.new) result }
+    ensures there { IsErrOf result NoAnswerError.ReadFault →
+        OfFile (H.files shelf.old) name.now (λ file. IsNotThere file → ⊥) }
+    ensures asked { H.Asked shelf.old shelf.new name.now }
+    ensures of_file { IfErr result (λ why. why ≡ NoAnswerError.GameMissing → ⊥) }
+    ensures missing { IsErrOf result NoAnswerError.FileMissing →
+        OfFile (H.files shelf.old) name.now (λ file. file ≡ None) }
+    ensures without_file { IfSome (H.files shelf.old) (λ files.
+        IsNotThere (files name.now) → input.new ≡ input.old) }
+{
+    match fetch_file(alloc, shelf, name) {
+        Ok(file) => reply_with(alloc, command, &file, input),
+        Err(NoFileError::TooLong) => Ok(answer_to_long_file(alloc)?),
+        Err(NoFileError::Missing) => Err(NoAnswerError::FileMissing),
+        Err(NoFileError::ShelfFault) => Err(NoAnswerError::ShelfFault),
+        Err(NoFileError::Memory(memory)) => Err(NoAnswerError::Memory(memory)),
+    }
+}
+
+// The answer to a command about all that the source has left; `file` is its other file. Only a
+// command that reads the input takes anything from the source.
+fn reply_with<S: Source>(
+    alloc: Global,
+    command: Command<Format>,
+    file: &[u8],
+    input: &mut S,
+) -> Result<Answer, NoAnswerError>
     ensures answer { IfOk result (λ answer. OfBytes (S.left input.old) (λ bytes.
-        IsAnswerBy way bytes (answer_said answer))) }
+        IsAnswer (command_in file.now command) bytes (answer_said answer))) }
     ensures read_fault { IsErrOf result NoAnswerError.ReadFault
         → Rose (S.faults input.old) (S.faults input.new) }
     ensures read_alone { IfErr result (λ why. ComesFirst why → ⊥) }
+    ensures reads { IsErrOf result NoAnswerError.ReadFault
+        → reads_input (command_in file.now command) ≡ true }
+    ensures without_input { reads_input (command_in file.now command) ≡ false
+        → input.new ≡ input.old }
 {
+    if !command.reads_input() {
+        return Ok(answer::answer_to(alloc, command, file, b"")?);
+    }
     match read_all(alloc, input, MOST_INPUT) {
-        Ok(bytes) => Ok(answer::answer_to(alloc, way.command, &way.reader, &bytes)?),
+        Ok(bytes) => Ok(answer::answer_to(alloc, command, file, &bytes)?),
         Err(InFault::TooLong) => Ok(answer::input_too_long(alloc)?),
         Err(InFault::ReadFault) => Err(NoAnswerError::ReadFault),
         Err(InFault::Memory(memory)) => Err(NoAnswerError::Memory(memory)),

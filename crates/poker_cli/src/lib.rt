@@ -5,7 +5,6 @@
 mod answer;
 mod check;
 mod compare;
-mod compared_files;
 mod convert;
 mod each_answer;
 mod each_options;
@@ -20,16 +19,16 @@ mod judge;
 mod laws;
 mod limits;
 mod load;
+mod named_formats;
 mod no_answer;
 mod options;
+mod other_file;
 mod process;
 mod replay;
 mod report;
 mod session;
 mod status;
-mod task;
 mod views;
-mod ways;
 
 pub use entry::run;
 pub use laws::{

@@ -11,19 +11,17 @@ use Rattle.poker_cli.proofs.compare.answer_beside.Goals as goal
 
 pub returns-in-Ok : goal.returns-in-Ok
 returns-in-Ok c =
-    let by = c.args.by.now in
-    let shown = subst (λ (others : List Play). IfOk c.answer_to_both.result (λ answer. answer_said answer ≡ compared by.notes c.args.plays.now others))
+    let shown = subst (λ (others : List Play). IfOk c.answer_to_both.result (λ answer. answer_said answer ≡ compared c.args.notes c.args.plays.now others))
     c.deref.ensures.value c.answer_to_both.ensures in
     IfOk-weaker c.answer_to_both.result _ _
-    (λ answer same. subst (λ (a : Answer). IsComparedWith by.other by.notes c.args.file.now c.args.plays.now a) (sym same)
+    (λ answer same. subst (λ (a : Answer). IsComparedWith c.args.other.now c.args.notes c.args.file.now c.args.plays.now a) (sym same)
     (answers.OtherPlayed c.in-Ok.others.items c.in-Ok.ensures.plays))
     shown
 
 pub returns-in_ok-answer-in-Err : goal.returns-in_ok-answer-in-Err
 returns-in_ok-answer-in-Err c =
-    let by = c.args.by.now in
     IfOk-weaker c.in_file.result _ _
-    (λ answer same. subst (λ (a : Answer). IsComparedWith by.other by.notes c.args.file.now c.args.plays.now a) (sym same)
-    (other_told by.other by.notes c.args.file.now c.args.plays.now (answer_said c.in_ok-answer-in-Err.answer) c.in-Err.fault c.in-Err.ensures.refused
+    (λ answer same. subst (λ (a : Answer). IsComparedWith c.args.other.now c.args.notes c.args.file.now c.args.plays.now a) (sym same)
+    (other_told c.args.other.now c.args.notes c.args.file.now c.args.plays.now (answer_said c.in_ok-answer-in-Err.answer) c.in-Err.fault c.in-Err.ensures.refused
     c.in_ok-answer-in-Err.ensures))
     c.in_file.ensures

@@ -1,6 +1,5 @@
-use Rattle.poker_cli.proofs.Comparisons.{one_comparison}
 use Rattle.poker_cli.proofs.OneAnswer.{one_answer}
 use Rattle.poker_cli.proofs.laws.law_of_one_answer.Goals as goal
 
 pub returns : goal.returns
-returns c = record { command = one_answer; comparison = one_comparison }
+returns c = one_answer

@@ -1,6 +1,6 @@
 -- A word of no command asks for nothing.
 use Rattle.std.proofs.Common.{codes, refl}
-use Rattle.command_words.proofs.words.request_of.Goals as goal
+use Rattle.command_words.proofs.words.command_of.Goals as goal
 use Rattle.card_set.proofs.Bytes.{different_bytes}
 
 pub returns-in_default : goal.returns-in_default

@@ -4,10 +4,10 @@ use Rattle.host_io.specs.Shelf.{IsAnswer}
 use Rattle.host_io.specs.declared.shelf.Fetched.{Fetched}
 use Rattle.host_io.specs.declared.shelf.Fetched.TheVariants as fetched_is
 use Rattle.poker_cli.specs.AnswerParts.{most_input}
-use Rattle.poker_cli.specs.ComparedFiles.{HasNoFile}
-use Rattle.poker_cli.specs.declared.compared_files.NoFileError.TheVariants as no_files
+use Rattle.poker_cli.specs.OtherFile.{HasNoFile}
+use Rattle.poker_cli.specs.declared.other_file.NoFileError.TheVariants as no_files
 use Rattle.poker_cli.proofs.FilesTold.{by_answer}
-use Rattle.poker_cli.proofs.compared_files.fetch_file.Goals as goal
+use Rattle.poker_cli.proofs.other_file.fetch_file.Goals as goal
 
 too_long : (file : Option (List ℕ)) → IsAnswer file most_input fetched_is.TooLong → HasNoFile file no_files.TooLong
 too_long (Some text) more = (text, (refl, more))

@@ -1,0 +1,7 @@
+-- Verdicts are asked for with lines or without.
+use Rattle.std.proofs.Common.{rules, ◌∙◌}
+use Rattle.command_words.specs.Requests.{file_given, options_in}
+use Rattle.command_words.proofs.judge.command.Goals as goal
+
+pub returns : goal.returns
+returns c = c.verdicts_of.ensures (file_given (options_in c.args.options)) ∙ search rules
