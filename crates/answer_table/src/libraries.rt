@@ -1,15 +1,13 @@
 //! Calls library functions that the program does not call, or calls with fewer arguments, on the
 //! hands of a row, and prints their answers in words.
 ghost use Rattle.std.specs.Prelude.{◌≤◌, length};
-ghost use Rattle.std.specs.List.{AllByRecursion};
 ghost use Rattle.first_fault.specs.declared.limits.TheConstants.{MOST_HANDS};
-ghost use Rattle.hand_canon.specs.Sound.{IsSound};
 
 use crate::answer::push_named;
 use crate::parts::play_hands;
 use crate::pieces::{Pieces, parted};
 use card_set::{Memory, TryWrite, string_from, try_format, try_write};
-use hand_canon::Play;
+use hand_canon::{Play, SoundPlays};
 use hand_equity::{NoEquity, equity_of, equity_text};
 use hand_session::{Session, session, session_text};
 use printed_hands::report_text;
@@ -30,17 +28,14 @@ pub fn answer_to(alloc: Global, pieces: &Pieces, row: &str) -> Result<String, Me
         return string_from(alloc, "no hands");
     };
     match call {
-        "session" => session_answer(alloc, &plays),
+        "session" => session_answer(alloc, &SoundPlays::new(&plays)),
         "report" => report_answer(alloc, &plays),
-        _ => equity_answer(alloc, &plays, street),
+        _ => equity_answer(alloc, &SoundPlays::new(&plays), street),
     }
 }
 
 // The session of hands: the number of its steps and rows, each of them, and the text.
-fn session_answer(alloc: Global, plays: &[Play]) -> Result<String, Memory>
-    requires sound { AllByRecursion IsSound plays.now }
-    requires few { length plays.now ≤ MOST_HANDS }
-{
+fn session_answer(alloc: Global, plays: &SoundPlays<'_>) -> Result<String, Memory> {
     let session = session(alloc, plays)?;
     let text = session_text(alloc, &session)?;
     let mut answer = String::new(alloc);
@@ -83,15 +78,14 @@ fn report_answer(alloc: Global, plays: &[Play]) -> Result<String, Memory>
 }
 
 // The equity of the first of some hands on a street, or why there is none.
-fn equity_answer(alloc: Global, plays: &[Play], street: u8) -> Result<String, Memory>
-    requires sound { AllByRecursion IsSound plays.now }
-{
-    let [play, ..] = plays else {
+fn equity_answer(alloc: Global, plays: &SoundPlays<'_>, street: u8) -> Result<String, Memory> {
+    if plays.len() == 0 {
         return string_from(alloc, "no hand");
-    };
-    match equity_of(play, street) {
+    }
+    let play = plays.get(0);
+    match equity_of(&play, street) {
         Ok(row) => {
-            let text = equity_text(alloc, 1, street, play, &row)?;
+            let text = equity_text(alloc, 1, street, play.play(), &row)?;
             let mut answer = string_from(alloc, "equity")?;
             push_named(&mut answer, "text", &text)?;
             Ok(answer)

@@ -53,12 +53,7 @@ fn points(
 }
 
 // The legal moves after this number of events of a hand.
-fn point(
-    each: bool,
-    from: NotationName,
-    hand: u32,
-    events: u32,
-) -> Command<NotationName>
+fn point(each: bool, from: NotationName, hand: u32, events: u32) -> Command<NotationName>
     ensures { (file : List ℕ) → command_in file result ≡ point_asked each from hand events }
 {
     if each {

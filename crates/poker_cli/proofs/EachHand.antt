@@ -6,11 +6,11 @@ use Rattle.std.specs.List.{slice_get}
 use Rattle.hand_canon.specs.declared.record.Record.{Record}
 use Rattle.poker_cli.specs.Each.{Adds, AreReplayedAlone, IsReplayedAlone, record_numbered}
 
-pub numbered : (records : List Record) (number place : ℕ) (hand : Record) → place ≡ number - 1 → slice_get records place ≡ Some hand → record_numbered records number ≡ Some hand
-numbered records number place hand is here = subst (λ (n : ℕ). slice_get records n ≡ Some hand) is here
+pub numbered : (records : List Record) (number index : ℕ) (hand : Record) → index ≡ number - 1 → slice_get records index ≡ Some hand → record_numbered records number ≡ Some hand
+numbered records number index hand is here = subst (λ (n : ℕ). slice_get records n ≡ Some hand) is here
 
-pub not_numbered : (records : List Record) (number place : ℕ) → place ≡ number - 1 → length records ≤ place → record_numbered records number ≡ None
-not_numbered records number place is beyond = subst (λ (n : ℕ). slice_get records n ≡ None) is (slice_get_past records place beyond)
+pub not_numbered : (records : List Record) (number index : ℕ) → index ≡ number - 1 → length records ≤ index → record_numbered records number ≡ None
+not_numbered records number index is beyond = subst (λ (n : ℕ). slice_get records n ≡ None) is (slice_get_past records index beyond)
 
 -- no hands have no text
 pub none_replayed : (text : List ℕ) → text ≡ [] → AreReplayedAlone 1 [] text

@@ -22,12 +22,12 @@ pub fn answer_with_points(
 ) -> Result<Answer, Memory>
     ensures { IfOk result (λ answer. IsEveryPoint hand records.now (answer_said answer)) }
 {
-    let place = (hand as usize).saturating_sub(1);
+    let index = (hand as usize).saturating_sub(1);
     let count = records.len();
-    if count <= place {
+    if count <= index {
         return no_hand(alloc, hand, count);
     }
-    let record = records.get(place);
+    let record = records.get(index);
     let text = text_of_points(alloc, hand, &record)?;
     Ok(done_with(alloc, text))
 }
@@ -57,12 +57,12 @@ pub fn answer_with_point(
 ) -> Result<Answer, Memory>
     ensures { IfOk result (λ answer. IsPoint hand events records.now (answer_said answer)) }
 {
-    let place = (hand as usize).saturating_sub(1);
+    let index = (hand as usize).saturating_sub(1);
     let count = records.len();
-    if count <= place {
+    if count <= index {
         return no_hand(alloc, hand, count);
     }
-    let sound = records.get(place);
+    let sound = records.get(index);
     let record = sound.record;
     let part = legal_part(alloc, &record.setup, &record.rules, &record.script)?;
     if part.events < events {

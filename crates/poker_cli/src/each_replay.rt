@@ -23,9 +23,9 @@ pub fn replay_each(alloc: Global, records: &SoundRecords) -> Result<String, Memo
 {
     let mut text = String::new(alloc);
     let count = records.len();
-    for place in 0..count {
-        let hand = records.get(place);
-        push_hand(alloc, &mut text, place + 1, &hand)?;
+    for index in 0..count {
+        let hand = records.get(index);
+        push_hand(alloc, &mut text, index + 1, &hand)?;
     }
     Ok(text)
 }

@@ -1,7 +1,6 @@
 //! Answers `equity`: how often each live seat of a hand would win.
-ghost use Rattle.std.specs.Prelude.{◌≡◌, ◌<◌, All, Some, IfOk};
+ghost use Rattle.std.specs.Prelude.{◌≡◌, ◌<◌, Some, IfOk};
 ghost use Rattle.convert_core.specs.Formats.{HaveFault, SayRecords};
-ghost use Rattle.hand_canon.specs.Sound.{IsSound};
 ghost use Rattle.poker_cli.specs.Equity as in_equity;
 ghost use Rattle.poker_cli.specs.Equity.{IsEquityAt};
 ghost use Rattle.poker_cli.specs.AnswerParts.{IsAnswerTo};
@@ -11,7 +10,7 @@ use crate::answer::{Answer, answer_to_fault, done, no_hand, refusal};
 use crate::status::Status;
 use card_set::{Memory, try_format};
 use convert_core::{Format, plays};
-use hand_canon::Play;
+use hand_canon::SoundPlays;
 use hand_equity::{NoEquity, equity_of, equity_text};
 use std::alloc::Global;
 
@@ -27,22 +26,29 @@ pub fn answer_with_equity(
         (HaveFault from.now bytes.now) (IsEquityAt hand street) (answer_said answer)) }
 {
     match plays(alloc, from, bytes) {
-        Ok(plays) => equity_in_plays(alloc, &plays, hand, street),
+        Ok(plays) => equity_in_plays(alloc, &SoundPlays::new(&plays), hand, street),
         Err(fault) => answer_to_fault(alloc, &fault),
     }
 }
 
 // The same, from the plays of all hands.
-fn equity_in_plays(alloc: Global, plays: &[Play], hand: u32, street: u8) -> Result<Answer, Memory>
-    requires sound { All IsSound plays.now }
+fn equity_in_plays(
+    alloc: Global,
+    plays: &SoundPlays<'_>,
+    hand: u32,
+    street: u8,
+) -> Result<Answer, Memory>
     ensures { IfOk result (λ answer. IsEquityAt hand street plays.now (answer_said answer)) }
 {
-    let Some(play) = plays.get((hand as usize).saturating_sub(1)) else {
-        return no_hand(alloc, hand, plays.len());
-    };
-    match equity_of(play, street) {
+    let index = (hand as usize).saturating_sub(1);
+    let count = plays.len();
+    if count <= index {
+        return no_hand(alloc, hand, count);
+    }
+    let play = plays.get(index);
+    match equity_of(&play, street) {
         Ok(row) => {
-            let text = equity_text(alloc, hand, street, play, &row)?;
+            let text = equity_text(alloc, hand, street, play.play(), &row)?;
             Ok(done(alloc, text))
         }
         Err(NoEquity::NoStreet) => no_street(alloc, hand, street),

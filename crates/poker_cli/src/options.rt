@@ -1,7 +1,6 @@
 //! Answers `options`: what is legal at a point of a hand.
-ghost use Rattle.std.specs.Prelude.{◌≡◌, ◌<◌, All, Some, IfOk};
+ghost use Rattle.std.specs.Prelude.{◌≡◌, ◌<◌, Some, IfOk};
 ghost use Rattle.convert_core.specs.Formats.{HaveFault, SayRecords};
-ghost use Rattle.hand_canon.specs.Sound.{IsSound};
 ghost use Rattle.poker_cli.specs.Options as in_options;
 ghost use Rattle.poker_cli.specs.Options.{AreOptionsAt};
 ghost use Rattle.poker_cli.specs.AnswerParts.{IsAnswerTo};
@@ -11,7 +10,7 @@ use crate::answer::{Answer, answer_to_fault, done, no_hand, refusal};
 use crate::status::Status;
 use card_set::{Memory, try_format};
 use convert_core::{Format, plays};
-use hand_canon::Play;
+use hand_canon::SoundPlays;
 use hand_options::{options, options_text};
 use std::alloc::Global;
 
@@ -27,24 +26,31 @@ pub fn answer_with_options(
         (HaveFault from.now bytes.now) (AreOptionsAt hand events) (answer_said answer)) }
 {
     match plays(alloc, from, bytes) {
-        Ok(plays) => options_in_plays(alloc, &plays, hand, events),
+        Ok(plays) => options_in_plays(alloc, &SoundPlays::new(&plays), hand, events),
         Err(fault) => answer_to_fault(alloc, &fault),
     }
 }
 
 // The same, from the plays of all hands.
-fn options_in_plays(alloc: Global, plays: &[Play], hand: u32, events: u32) -> Result<Answer, Memory>
-    requires sound { All IsSound plays.now }
+fn options_in_plays(
+    alloc: Global,
+    plays: &SoundPlays<'_>,
+    hand: u32,
+    events: u32,
+) -> Result<Answer, Memory>
     ensures { IfOk result (λ answer. AreOptionsAt hand events plays.now (answer_said answer)) }
 {
-    let Some(play) = plays.get((hand as usize).saturating_sub(1)) else {
-        return no_hand(alloc, hand, plays.len());
-    };
-    let all = play.hand.script.len();
+    let index = (hand as usize).saturating_sub(1);
+    let count = plays.len();
+    if count <= index {
+        return no_hand(alloc, hand, count);
+    }
+    let play = plays.get(index);
+    let all = play.play().hand.script.len();
     if all < events as usize {
         return no_event(alloc, hand, events, all);
     }
-    let options = options(play, events);
+    let options = options(&play, events);
     let text = options_text(alloc, hand, events, &options)?;
     Ok(done(alloc, text))
 }

@@ -26,7 +26,11 @@ pub enum NoFileError {
 }
 
 /// The bytes of the file of this name.
-pub fn fetch_file<H: Shelf>(alloc: Global, shelf: &mut H, name: &str) -> Result<Vec<u8>, NoFileError>
+pub fn fetch_file<H: Shelf>(
+    alloc: Global,
+    shelf: &mut H,
+    name: &str,
+) -> Result<Vec<u8>, NoFileError>
     ensures file { IfOk result (λ file. OfFile (H.files shelf.old) name.now (λ there.
         (there ≡ Some file.items) × (length file.items ≤ most_input))) }
     ensures none { IfErr result (λ reason. OfFile (H.files shelf.old) name.now (λ file.

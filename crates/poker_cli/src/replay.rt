@@ -28,10 +28,10 @@ impl HandVisitor for ReplayLines {
     fn take_play(
         &mut self,
         alloc: Global,
-        place: HandIndex,
+        index: HandIndex,
         judged: &JudgedPlay<'_>,
     ) -> Result<(), Memory> {
-        let number = place.index as u64 + 1;
+        let number = index.value as u64 + 1;
         push_replay_lines(alloc, &mut self.text, number, judged.play())
     }
 }
@@ -56,8 +56,6 @@ fn replay_text(alloc: Global, records: SoundRecords) -> Result<String, PlaysFaul
     let lines = ReplayLines {
         text: String::new(alloc),
     };
-    match take_plays(alloc, lines, records) {
-        Ok(lines) => Ok(lines.text),
-        Err(fault) => Err(fault),
-    }
+    let lines = take_plays(alloc, lines, records)?;
+    Ok(lines.text)
 }

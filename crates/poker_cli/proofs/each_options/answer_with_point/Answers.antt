@@ -9,20 +9,20 @@ use Rattle.poker_cli.specs.Each.{IsPoint}
 use Rattle.poker_cli.proofs.EachHand.{not_numbered, numbered}
 use Rattle.poker_cli.proofs.each_options.answer_with_point.Goals as goal
 
-pub returns-then-count-place : goal.returns-then-count-place
-returns-then-count-place c =
+pub returns-then-count-index : goal.returns-then-count-index
+returns-then-count-index c =
     let records = c.args.records.now in
-    let beyond : length records ≤ c.saturating_sub-place.result = omega (arith, c.if-count-place.true, c.len-count.ensures.count) in
+    let beyond : length records ≤ c.saturating_sub-index.result = omega (arith, c.if-count-index.true, c.len-count.ensures.count) in
     IfOk-weaker c.no_hand.result _ _
     (λ answer shown. subst (IsPoint c.args.hand c.args.events records) (sym (shown ∙ ap (no_hand c.args.hand) c.len-count.ensures.count))
-    (each.NoHandThere (not_numbered records c.args.hand c.saturating_sub-place.result c.saturating_sub-place.ensures beyond)))
+    (each.NoHandThere (not_numbered records c.args.hand c.saturating_sub-index.result c.saturating_sub-index.ensures beyond)))
     c.no_hand.ensures
 
 pub returns-then-part-events : goal.returns-then-part-events
 returns-then-part-events c =
     let records = c.args.records.now in
     let hand = c.get-sound.result.record.now in
-    let here = numbered records c.args.hand c.saturating_sub-place.result hand c.saturating_sub-place.ensures c.get-sound.ensures in
+    let here = numbered records c.args.hand c.saturating_sub-index.result hand c.saturating_sub-index.ensures c.get-sound.ensures in
     let past : c.in_ok-part.part.events < c.args.events = omega (arith, c.if-part-events.true) in
     IfOk-weaker c.no_event.result _ _
     (λ answer shown. subst (IsPoint c.args.hand c.args.events records) (sym shown)
@@ -41,7 +41,7 @@ pub returns : goal.returns
 returns c =
     let records = c.args.records.now in
     let hand = c.get-sound.result.record.now in
-    let here = numbered records c.args.hand c.saturating_sub-place.result hand c.saturating_sub-place.ensures c.get-sound.ensures in
+    let here = numbered records c.args.hand c.saturating_sub-index.result hand c.saturating_sub-index.ensures c.get-sound.ensures in
     let within : c.args.events ≤ c.in_ok-part.part.events = omega (arith, c.if-part-events.false) in
     subst (IsPoint c.args.hand c.args.events records) (sym (c.done.ensures ∙ ap done c.in_ok-text.ensures))
     (each.AtPoint hand here c.in_ok-part.part.events c.in_ok-part.ensures.beginning within c.options_at-options.result c.options_at-options.ensures.legal)

@@ -1,12 +1,13 @@
 -- The output is the game file of the first of all plays.
-use Rattle.std.proofs.Common.{◌<◌, length, subst, sym, arith}
+use Rattle.std.proofs.Common.{◌<◌, List, length, subst, sym, arith}
+use Rattle.hand_canon.specs.declared.trace.Play.{Play}
 use Rattle.poker_cli.specs.Game.{IsGameReply}
 use Rattle.poker_cli.proofs.GameReplies.{first_of_all}
 use Rattle.poker_cli.proofs.game.answer_with_first_game.Goals as goal
 
 pub returns-in_ok-write_game-in-Ok : goal.returns-in_ok-write_game-in-Ok
 returns-in_ok-write_game-in-Ok c =
-    let plays = c.args.plays.now in
+    let plays = c.as_slice.result.now in
     let some : 0 < length plays = omega (arith, c.in-len1-up.len_at_least) in
-    subst (IsGameReply plays) (sym c.done-in-Ok.ensures)
-    (first_of_all plays c.play-item.result c.in-Ok.game _ some c.play-item.is c.in-Ok.ensures.game c.in_ok-write_game-in-Ok.ensures)
+    subst (λ (all : List Play). IsGameReply all _) c.as_slice.ensures.same (subst (IsGameReply plays) (sym c.done-in-Ok.ensures)
+    (first_of_all plays c.play-item.result c.in-Ok.game _ some c.play-item.is c.in-Ok.ensures.game c.in_ok-write_game-in-Ok.ensures))
