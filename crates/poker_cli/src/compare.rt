@@ -11,7 +11,7 @@ use crate::answer::{Answer, answer_to_fault, done_with, refusal};
 use crate::status::Status;
 use card_set::{Memory, try_format};
 use convert_core::{Format, plays as plays_in};
-use hand_canon::Play;
+use hand_canon::{Play, SoundPlay};
 use hand_differences::{Difference, difference_text, first_difference};
 use std::alloc::Global;
 
@@ -111,7 +111,8 @@ fn first_different(notes: bool, plays: &[Play], others: &[Play]) -> Option<HandD
 {
     for (place, play) in plays.iter().enumerate() {
         let other = others.get(place)?;
-        if let Some(difference) = first_difference(notes, place, play, other) {
+        let (play, other) = (SoundPlay::new(play), SoundPlay::new(other));
+        if let Some(difference) = first_difference(notes, place, &play, &other) {
             let number = place + 1;
             return Some(HandDifference { number, difference });
         }
