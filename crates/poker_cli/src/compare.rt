@@ -111,7 +111,8 @@ fn first_different(notes: bool, plays: &[Play], others: &[Play]) -> Option<HandD
 {
     for (place, play) in plays.iter().enumerate() {
         let other = others.get(place)?;
-        let (play, other) = (SoundPlay::new(play), SoundPlay::new(other));
+        let play = SoundPlay::new(play);
+        let other = SoundPlay::new(other);
         if let Some(difference) = first_difference(notes, place, &play, &other) {
             let number = place + 1;
             return Some(HandDifference { number, difference });
