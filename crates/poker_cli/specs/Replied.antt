@@ -9,8 +9,8 @@ use Rattle.poker_cli.specs.declared.no_answer.NoAnswerError.{NoAnswerError}
 use Rattle.poker_cli.specs.declared.no_answer.NoAnswerError.TheVariants as whys
 
 -- There is no answer for this reason, by what is needed, the bytes that a source has left and the
--- files on a shelf: the input was to be read and no file was missing, or the shelf failed, or a file
--- that is needed is not there. Nothing is known of them if memory ran out.
+-- files on a shelf: the input was to be read and no file was missing, or the shelf failed, or a
+-- file that is needed is not there. Nothing is known of them if memory ran out.
 abbrev pub HasNoReply : Needs → (left : Option (List ℕ)) → (shown : Option FilesByName)
     → NoAnswerError → Type 0
 HasNoReply needs left shown whys.ReadFault =
