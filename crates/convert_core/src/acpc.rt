@@ -9,7 +9,7 @@ use crate::notation::Notation;
 use acpc_format::Game;
 use acpc_reading::hand_lines;
 use card_set::Memory;
-use hand_canon::{Keep, Play, Records, Unspelled, WriteRefusal};
+use hand_canon::{Keep, Play, Records, SoundPlay, Unspelled, WriteRefusal};
 use play_event::{Reopen, Rules};
 use std::alloc::Global;
 
@@ -68,7 +68,7 @@ impl Notation for Acpc {
         place: usize,
         play: &Play,
     ) -> Result<(), Memory> {
-        acpc_format::push_line(alloc, out, self.game.no_limit, place, play)?;
+        acpc_format::push_line(alloc, out, self.game.no_limit, place, &SoundPlay::new(play))?;
         Ok(())
     }
 }

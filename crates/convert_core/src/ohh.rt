@@ -7,7 +7,7 @@ ghost use Rattle.convert_core.specs.Ohh as in_ohh;
 use crate::format_fault::FormatFault;
 use crate::notation::Notation;
 use card_set::Memory;
-use hand_canon::{Keep, Play, Records, Unspelled, WriteRefusal};
+use hand_canon::{Keep, Play, Records, SoundPlay, Unspelled, WriteRefusal};
 use ohh_format::Dialect;
 use ohh_reading::block_lines;
 use play_event::{Reopen, Rules};
@@ -68,6 +68,6 @@ impl Notation for Ohh {
         place: usize,
         play: &Play,
     ) -> Result<(), Memory> {
-        ohh_format::push_line(alloc, out, self.dialect, place, play)
+        ohh_format::push_line(alloc, out, self.dialect, place, &SoundPlay::new(play))
     }
 }

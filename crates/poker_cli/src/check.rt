@@ -26,11 +26,11 @@ impl HandVisitor for CheckLines {
     fn take_play(
         &mut self,
         _: Global,
-        index: HandIndex,
+        place: HandIndex,
         judged: &JudgedPlay<'_>,
     ) -> Result<(), Memory> {
-        let number = index.value as u64 + 1;
-        push_check_line(&mut self.text, number, judged.play().play())
+        let number = place.index as u64 + 1;
+        push_check_line(&mut self.text, number, judged.play())
     }
 }
 
@@ -55,7 +55,11 @@ fn check_text(alloc: Global, records: SoundRecords) -> Result<String, PlaysFault
     let lines = CheckLines {
         text: String::new(alloc),
     };
-    let mut lines = take_plays(alloc, lines, records)?;
-    push_check_end(&mut lines.text, hands as u64)?;
-    Ok(lines.text)
+    match take_plays(alloc, lines, records) {
+        Ok(mut lines) => match push_check_end(&mut lines.text, hands as u64) {
+            Ok(()) => Ok(lines.text),
+            Err(memory) => Err(PlaysFault::Memory(memory)),
+        },
+        Err(fault) => Err(fault),
+    }
 }

@@ -16,7 +16,7 @@ pub trait HandVisitor {
     /// What holds of a taker before and after it took these plays.
     ghost TookPlays: { Self → Self → List AnyPlay → Type 0 };
 
-    /// Takes the play of the hand at its index in the file, from 0.
+    /// Takes the play of the hand at its place in the file, from 0.
     ///
     /// # Errors
     ///
@@ -24,11 +24,11 @@ pub trait HandVisitor {
     fn take_play(
         &mut self,
         alloc: Global,
-        index: HandIndex,
+        place: HandIndex,
         play: &JudgedPlay<'_>,
     ) -> Result<(), Memory>
-        requires { (start : Self) × HasTakenPlays (TookPlays start self.old) index.value }
-        ensures { (start : Self) (before : List AnyPlay) → length before ≡ index.value
+        requires { (start : Self) × HasTakenPlays (TookPlays start self.old) place.index }
+        ensures { (start : Self) (before : List AnyPlay) → length before ≡ place.index
             → TookPlays start self.old before
             → OnOk result (TookPlays start self.new (before ++ play.now ∷ [])) };
 }
@@ -58,10 +58,13 @@ impl<T: HandVisitor + Drop> VerdictVisitor for LegalPlays<T> {
     fn take(
         &mut self,
         alloc: Global,
-        index: HandIndex,
+        place: HandIndex,
         play: &JudgedPlay<'_>,
     ) -> Result<(), Memory> {
-        self.visitor.take_play(alloc, index, play)
+        match self.visitor.take_play(alloc, place, play) {
+            Ok(()) => Ok(()),
+            Err(memory) => Err(memory),
+        }
     }
 
     fn pass(&mut self, _: Global, _: HandIndex, _: &Refusal) -> Result<(), Memory> {
@@ -84,6 +87,8 @@ pub fn take_plays<T: HandVisitor + Drop>(
     ensures refused { IfErr result (IsPlaysFaultOf records) }
 {
     let mut legal = LegalPlays { visitor };
-    judge_all(alloc, &mut legal, records)?;
-    Ok(legal.visitor)
+    match judge_all(alloc, &mut legal, records) {
+        Ok(_) => Ok(legal.visitor),
+        Err(fault) => Err(fault),
+    }
 }

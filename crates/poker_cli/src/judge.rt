@@ -16,7 +16,7 @@ use convert_core::{
 use std::alloc::Global;
 
 // The lines of the hands so far, and how many of these hands are legal. Each hand begins on the
-// line of the input that is at its index in `lines`; there is none if lines are not asked for.
+// line of the input that is at its place in `lines`; there is none if lines are not asked for.
 #[derive(Drop)]
 struct VerdictLines {
     lines: Vec<u64>,
@@ -40,27 +40,27 @@ impl VerdictVisitor for VerdictLines {
         false
     }
 
-    fn take(&mut self, _: Global, index: HandIndex, _: &JudgedPlay<'_>) -> Result<(), Memory> {
-        let number = index.value + 1;
-        let line = line_at(&self.lines, index.value);
+    fn take(&mut self, _: Global, place: HandIndex, _: &JudgedPlay<'_>) -> Result<(), Memory> {
+        let number = place.index + 1;
+        let line = line_at(&self.lines, place.index);
         push_legal(&mut self.text, number, line)?;
         self.legal += 1;
         Ok(())
     }
 
-    fn pass(&mut self, _: Global, index: HandIndex, why: &Refusal) -> Result<(), Memory> {
-        let number = index.value + 1;
-        let line = line_at(&self.lines, index.value);
+    fn pass(&mut self, _: Global, place: HandIndex, why: &Refusal) -> Result<(), Memory> {
+        let number = place.index + 1;
+        let line = line_at(&self.lines, place.index);
         push_refused(&mut self.text, number, line, why)?;
         Ok(())
     }
 }
 
-// The line of the input on which the hand at this index begins, if that is asked for.
-fn line_at(lines: &Vec<u64>, index: usize) -> Option<u64>
-    ensures { result ≡ slice_get lines.now.items index }
+// The line of the input on which the hand at this place begins, if that is asked for.
+fn line_at(lines: &Vec<u64>, place: usize) -> Option<u64>
+    ensures { result ≡ slice_get lines.now.items place }
 {
-    lines.get(index).copied()
+    lines.get(place).copied()
 }
 
 /// One line per hand with its verdict, and with the line of the input on which it begins if `lines`

@@ -13,6 +13,7 @@ use crate::answer::{Answer, answer_to_fault, answer_with_text};
 use crate::hand_visitor::{HandVisitor, take_plays};
 use card_set::Memory;
 use convert_core::{Format, HandIndex, JudgedPlay, PlaysFault, SoundRecords, read_records};
+use hand_canon::SoundPlay;
 use printed_hands::push_replay_lines;
 use std::alloc::Global;
 
@@ -28,11 +29,12 @@ impl HandVisitor for ReplayLines {
     fn take_play(
         &mut self,
         alloc: Global,
-        index: HandIndex,
+        place: HandIndex,
         judged: &JudgedPlay<'_>,
     ) -> Result<(), Memory> {
-        let number = index.value as u64 + 1;
-        push_replay_lines(alloc, &mut self.text, number, judged.play())
+        let number = place.index as u64 + 1;
+        let play = SoundPlay::new(judged.play());
+        push_replay_lines(alloc, &mut self.text, number, &play)
     }
 }
 
@@ -56,6 +58,8 @@ fn replay_text(alloc: Global, records: SoundRecords) -> Result<String, PlaysFaul
     let lines = ReplayLines {
         text: String::new(alloc),
     };
-    let lines = take_plays(alloc, lines, records)?;
-    Ok(lines.text)
+    match take_plays(alloc, lines, records) {
+        Ok(lines) => Ok(lines.text),
+        Err(fault) => Err(fault),
+    }
 }

@@ -13,6 +13,7 @@ use crate::answer::{Answer, answer_to_fault, answer_with_text};
 use crate::hand_visitor::{HandVisitor, take_plays};
 use card_set::Memory;
 use convert_core::{Format, HandIndex, JudgedPlay, PlaysFault, SoundRecords, read_records};
+use hand_canon::SoundPlay;
 use hand_session::{OpenSession, session_text};
 use std::alloc::Global;
 
@@ -25,7 +26,8 @@ impl HandVisitor for OpenSession {
         _: HandIndex,
         judged: &JudgedPlay<'_>,
     ) -> Result<(), Memory> {
-        self.add_play(alloc, judged.play())
+        let play = SoundPlay::new(judged.play());
+        self.add_play(alloc, &play)
     }
 }
 
@@ -48,6 +50,11 @@ fn session_of(alloc: Global, records: SoundRecords) -> Result<String, PlaysFault
         IsTextOf (λ plays. session_printed (session_said plays)) records (string_bytes text)) }
     ensures refused { IfErr result (IsPlaysFaultOf records) }
 {
-    let session = take_plays(alloc, OpenSession::new(alloc), records)?;
-    Ok(session_text(alloc, &session.close())?)
+    match take_plays(alloc, OpenSession::new(alloc), records) {
+        Ok(session) => match session_text(alloc, &session.close()) {
+            Ok(text) => Ok(text),
+            Err(memory) => Err(PlaysFault::Memory(memory)),
+        },
+        Err(fault) => Err(fault),
+    }
 }

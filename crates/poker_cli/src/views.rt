@@ -42,18 +42,18 @@ impl HandVisitor for SeenLines {
     fn take_play(
         &mut self,
         alloc: Global,
-        index: HandIndex,
+        place: HandIndex,
         play: &JudgedPlay<'_>,
     ) -> Result<(), Memory> {
         if !self.kept {
             return Ok(());
         }
-        if !has_room(&self.lines, &self.game, self.seat, index, play) {
+        if !has_room(&self.lines, &self.game, self.seat, place, play) {
             self.kept = false;
             self.lines = Vec::new(alloc);
             return Ok(());
         }
-        push_views(alloc, &mut self.lines, &self.game, self.seat, index, play)
+        push_views(alloc, &mut self.lines, &self.game, self.seat, place, play)
     }
 }
 
@@ -131,8 +131,13 @@ fn views_of(
         lines: Vec::new(alloc),
         kept: has_seat(game, seat),
     };
-    let seen = take_plays(alloc, seen, records)?;
-    Ok(answer_with_seen(alloc, seen)?)
+    match take_plays(alloc, seen, records) {
+        Ok(seen) => match answer_with_seen(alloc, seen) {
+            Ok(answer) => Ok(answer),
+            Err(memory) => Err(PlaysFault::Memory(memory)),
+        },
+        Err(fault) => Err(fault),
+    }
 }
 
 // Whether the seat is one of the game's seats.
@@ -165,17 +170,17 @@ fn has_room(
     lines: &Vec<u8>,
     game: &Game,
     seat: Seat,
-    index: HandIndex,
+    place: HandIndex,
     play: &JudgedPlay<'_>,
 ) -> bool
     requires { length lines.now.items ≤ most_view_bytes }
     ensures fits { result ≡ true → length lines.now.items
-        + length (views_text game.now.no_limit seat.number index.value play.now)
+        + length (views_text game.now.no_limit seat.number place.index play.now)
         ≤ most_view_bytes }
     ensures over { result ≡ false → most_view_bytes < length lines.now.items
-        + length (views_text game.now.no_limit seat.number index.value play.now) }
+        + length (views_text game.now.no_limit seat.number place.index play.now) }
 {
-    let len = views_len(game, play.play(), index.value as u32, seat);
+    let len = views_len(game, play.play(), place.index as u32, seat);
     len <= (MOST_VIEW_BYTES - lines.len()) as u64
 }
 
@@ -185,13 +190,13 @@ fn push_views(
     lines: &mut Vec<u8>,
     game: &Game,
     seat: Seat,
-    index: HandIndex,
+    place: HandIndex,
     play: &JudgedPlay<'_>,
 ) -> Result<(), Memory>
     ensures { OnOk result (lines.new.items ≡ lines.old.items
-        ++ views_text game.now.no_limit seat.number index.value play.now) }
+        ++ views_text game.now.no_limit seat.number place.index play.now) }
 {
-    let seen = views(alloc, game, play.play(), index.value as u32, seat)?;
+    let seen = views(alloc, game, play.play(), place.index as u32, seat)?;
     lines.try_extend_from_slice(&seen)?;
     Ok(())
 }

@@ -9,6 +9,6 @@ use Rattle.poker_cli.proofs.check.CheckLinesHandVisitor.take_play.Goals as goal
 pub returns : goal.returns
 returns c = λ start before counted printed.
     on_ok_weaker c.push_check_line.result
-    (λ more. now_printed check_line (string_bytes c.args.self.now.text) (string_bytes c.push_check_line.new.text) c.args.index.value before c.args.judged.now printed counted
-    (more ∙ ap (λ (play : Play). string_bytes c.args.self.now.text ++ check_line (c.args.index.value + 1) play) (c.play-2.ensures.same ∙ c.play.ensures.same)))
+    (λ more. now_printed check_line (string_bytes c.args.self.now.text) (string_bytes c.push_check_line.new.text) c.args.place.index before c.args.judged.now printed counted
+    (more ∙ ap (λ (play : Play). string_bytes c.args.self.now.text ++ check_line (c.args.place.index + 1) play) c.play.ensures.same))
     c.push_check_line.ensures

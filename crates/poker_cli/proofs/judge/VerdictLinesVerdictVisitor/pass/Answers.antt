@@ -9,9 +9,9 @@ use Rattle.poker_cli.proofs.judge.VerdictLinesVerdictVisitor.pass.Goals as goal
 pub returns : goal.returns
 returns c = λ start before hand on counted refused printed.
     let old = string_bytes c.args.self.now.text in
-    now_refused start.lines.items c.args.self.now.lines.items old (string_bytes c.push_refused.new.text) c.args.self.now.legal c.args.self.now.legal c.args.index.value
+    now_refused start.lines.items c.args.self.now.lines.items old (string_bytes c.push_refused.new.text) c.args.self.now.legal c.args.self.now.legal c.args.place.index
     before hand c.args.why.now printed counted
     (c.in_ok-push_refused.ensures
-    ∙ ap (λ (line : Option ℕ). old ++ (codes "hand " ++ (decimal (c.args.index.value + 1) ++ (begins_text line ++ (codes ": " ++ (refusal_text c.args.why.now ++ codes "\n"))))))
+    ∙ ap (λ (line : Option ℕ). old ++ (codes "hand " ++ (decimal (c.args.place.index + 1) ++ (begins_text line ++ (codes ": " ++ (refusal_text c.args.why.now ++ codes "\n"))))))
     c.line_at-line.ensures)
     refl

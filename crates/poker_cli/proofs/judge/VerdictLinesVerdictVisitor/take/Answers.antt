@@ -11,7 +11,7 @@ overflow_add-self c = omega (arith, c.args.place.within, c.requires.1.counted, c
 pub returns : goal.returns
 returns c = λ start before counted legal printed.
     let old = string_bytes c.args.self.now.text in
-    now_legal start.lines.items c.args.self.now.lines.items old (string_bytes c.push_legal.new.text) c.args.self.now.legal (c.args.self.now.legal + 1) c.args.index.value
+    now_legal start.lines.items c.args.self.now.lines.items old (string_bytes c.push_legal.new.text) c.args.self.now.legal (c.args.self.now.legal + 1) c.args.place.index
     before c.args.arg4.now printed counted
-    (c.in_ok-push_legal.ensures ∙ ap (λ (line : Option ℕ). old ++ (codes "hand " ++ (decimal (c.args.index.value + 1) ++ (begins_text line ++ codes ": legal\n")))) c.line_at-line.ensures)
+    (c.in_ok-push_legal.ensures ∙ ap (λ (line : Option ℕ). old ++ (codes "hand " ++ (decimal (c.args.place.index + 1) ++ (begins_text line ++ codes ": legal\n")))) c.line_at-line.ensures)
     refl

@@ -14,14 +14,14 @@ pub returns-then-not-self : goal.returns-then-not-self
 returns-then-not-self c = λ start before counted seen. (
   seen.0,
   seen.1,
-  not_kept_more c.args.self.now.game c.args.self.now.seat c.args.index.value before c.args.play.now counted c.args.self.now.kept c.args.self.now.lines.items (search rules) seen.2,
+  not_kept_more c.args.self.now.game c.args.self.now.seat c.args.place.index before c.args.play.now counted c.args.self.now.kept c.args.self.now.lines.items (search rules) seen.2,
 )
 
 pub returns-then-not-has_room : goal.returns-then-not-has_room
 returns-then-not-has_room c = λ start before counted seen. (
   seen.0,
   seen.1,
-  dropped_more c.args.self.now.game c.args.self.now.seat c.args.index.value before c.args.play.now counted c.args.self.now.kept c.args.self.now.lines.items _ (search rules) seen.2
+  dropped_more c.args.self.now.game c.args.self.now.seat c.args.place.index before c.args.play.now counted c.args.self.now.kept c.args.self.now.lines.items _ (search rules) seen.2
       (c.has_room.ensures.over (search rules)),
 )
 
@@ -31,7 +31,7 @@ returns c = λ start before counted seen.
     (λ put. (
       seen.0,
       seen.1,
-      kept_more c.args.self.now.game c.args.self.now.seat c.args.index.value before c.args.play.now counted c.args.self.now.kept c.args.self.now.lines.items _ (search rules) seen.2
+      kept_more c.args.self.now.game c.args.self.now.seat c.args.place.index before c.args.play.now counted c.args.self.now.kept c.args.self.now.lines.items _ (search rules) seen.2
           (c.has_room.ensures.fits (search rules)) put,
     ))
     c.push_views.ensures
