@@ -1,9 +1,7 @@
 //! The numbers of one made hand.
 ghost use Rattle.std.specs.Prelude.{◌≡◌, ◌≤◌, ◌∷◌, [], Ok, IfOk, length};
-ghost use Rattle.std.specs.List.{AllByRecursion};
 ghost use Rattle.acpc_game.specs.GameView.{game_in};
 ghost use Rattle.acpc_format.specs.GameOf as games;
-ghost use Rattle.hand_canon.specs.Sound.{IsSound};
 ghost use Rattle.hand_canon.specs.declared.trace.Play.{Play as PlayNow};
 ghost use Rattle.phh_format.specs.Spelled as phh;
 ghost use Rattle.hand_gen.specs.Load.{AreCountsOf, IsInHistories, IsInLogs, hands_spelled};
@@ -12,25 +10,19 @@ use crate::summary::{PlayCounts, SpelledSize};
 use acpc_format::game_of;
 use acpc_game::Game;
 use card_set::Memory;
-use hand_canon::{Keep, Play, WriteRefusal, pot_total};
+use hand_canon::{Keep, Play, SoundPlay, SoundPlays, WriteRefusal, pot_total};
 use ohh_members::Dialect;
 use std::alloc::Global;
 
 /// The numbers of the only play of a file.
-pub fn counts_of(alloc: Global, file: &[Play]) -> Result<PlayCounts, Memory>
-    requires sound { AllByRecursion IsSound file.now }
-    requires one { length file.now ≡ 1 }
+pub fn counts_of(alloc: Global, file: &SoundPlays<'_>) -> Result<PlayCounts, Memory>
+    requires { length file.now ≡ 1 }
     ensures { (play : PlayNow) → file.now ≡ play ∷ [] → IfOk result (AreCountsOf play) }
 {
-    let play = &file[0];
-    let ohh = match in_histories(alloc, file) {
-        Ok(ohh) => ohh,
-        Err(memory) => return Err(memory),
-    };
-    let acpc = match in_logs(alloc, play, file) {
-        Ok(acpc) => acpc,
-        Err(memory) => return Err(memory),
-    };
+    let only = file.get(0);
+    let ohh = in_histories(alloc, file)?;
+    let acpc = in_logs(alloc, &only, file)?;
+    let play = only.play();
     Ok(PlayCounts {
         moves: play.trace.moves.len() as u128,
         pots: pot_total(&play.trace),
@@ -41,12 +33,10 @@ pub fn counts_of(alloc: Global, file: &[Play]) -> Result<PlayCounts, Memory>
 }
 
 // The size of a play in Open Hand History, as a file of its own.
-fn in_histories(alloc: Global, file: &[Play]) -> Result<SpelledSize, Memory>
-    requires sound { AllByRecursion IsSound file.now }
-    requires one { length file.now ≤ 1 }
+fn in_histories(alloc: Global, file: &SoundPlays<'_>) -> Result<SpelledSize, Memory>
     ensures { (play : PlayNow) → file.now ≡ play ∷ [] → IfOk result (IsInHistories play) }
 {
-    match ohh_writing::write(alloc, Dialect::Added, file, Keep::All) {
+    match ohh_writing::write(alloc, Dialect::Added, file.as_slice(), Keep::All) {
         Ok(bytes) => Ok(spelled_in(bytes.len())),
         Err(WriteRefusal::Memory(memory)) => Err(memory),
         Err(WriteRefusal::Unspelled { hand: _, fact: _ }) => Ok(not_spelled()),
@@ -54,25 +44,25 @@ fn in_histories(alloc: Global, file: &[Play]) -> Result<SpelledSize, Memory>
 }
 
 // The size of a play in the logs of the game that it fits.
-fn in_logs(alloc: Global, play: &Play, file: &[Play]) -> Result<SpelledSize, Memory>
-    requires sound { AllByRecursion IsSound file.now }
-    requires one { file.now ≡ play.now ∷ [] }
-    ensures { IfOk result (IsInLogs play.now) }
+fn in_logs(
+    alloc: Global,
+    play: &SoundPlay<'_>,
+    file: &SoundPlays<'_>,
+) -> Result<SpelledSize, Memory>
+    ensures { file.now ≡ play.now ∷ [] → IfOk result (IsInLogs play.now) }
 {
-    match game_of(play) {
+    match game_of(play.play()) {
         Ok(game) => in_logs_of(alloc, &game, file),
         Err(_) => Ok(not_spelled()),
     }
 }
 
 // The size of a play in the logs of a game, as a file of its own.
-fn in_logs_of(alloc: Global, game: &Game, file: &[Play]) -> Result<SpelledSize, Memory>
-    requires sound { AllByRecursion IsSound file.now }
-    requires one { length file.now ≤ 1 }
+fn in_logs_of(alloc: Global, game: &Game, file: &SoundPlays<'_>) -> Result<SpelledSize, Memory>
     ensures { (play : PlayNow) → file.now ≡ play ∷ []
         → games.game_of play.trace.setup ≡ Ok (game_in game.now) → IfOk result (IsInLogs play) }
 {
-    match acpc_format::write(alloc, game, file, Keep::All) {
+    match acpc_format::write(alloc, game, file.as_slice(), Keep::All) {
         Ok(bytes) => Ok(spelled_in(bytes.len())),
         Err(WriteRefusal::Memory(memory)) => Err(memory),
         Err(WriteRefusal::Unspelled { hand: _, fact: _ }) => Ok(not_spelled()),

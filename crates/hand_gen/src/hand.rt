@@ -37,10 +37,9 @@ pub fn script_of<V: Variant>(
     let mut hand = HandInPlay::<V>::start(setup, &history_rules());
     let mut script = Script::new(alloc);
     loop {
-        match play_next(&mut hand, &mut script, stock) {
-            Ok(true) => {}
-            Ok(false) => return Ok(script),
-            Err(memory) => return Err(memory),
+        let made = play_next(&mut hand, &mut script, stock)?;
+        if !made {
+            return Ok(script);
         }
     }
 }
@@ -83,8 +82,6 @@ fn play_next<V: Variant>(
         Ok(_) => {}
         Err(_) => unreachable!(),
     }
-    match script.push(event) {
-        Ok(()) => Ok(true),
-        Err(memory) => Err(memory),
-    }
+    script.push(event)?;
+    Ok(true)
 }

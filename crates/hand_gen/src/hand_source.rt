@@ -31,10 +31,8 @@ impl HandSource {
         ensures number { IfOk result (λ stock. stock.number ≡ number) }
         ensures deck { IfOk result (λ stock. stock.deck ≡ stocks.full_deck code) }
     {
-        match full_deck(alloc, code) {
-            Ok(deck) => Ok(HandSource { number, deck }),
-            Err(memory) => Err(memory),
-        }
+        let deck = full_deck(alloc, code)?;
+        Ok(HandSource { number, deck })
     }
 
     /// The generator's number.
@@ -90,10 +88,7 @@ fn full_deck(alloc: Global, code: Code) -> Result<Vec<Card>, Memory>
     let mut deck = Vec::new(alloc);
     for place in 0..52 {
         let card = card_with_index(place);
-        match push_if(&mut deck, table.in_deck(card), card) {
-            Ok(()) => {}
-            Err(memory) => return Err(memory),
-        }
+        push_if(&mut deck, table.in_deck(card), card)?;
     }
     Ok(deck)
 }

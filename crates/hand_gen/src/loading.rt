@@ -11,6 +11,7 @@ use crate::counting::counts_of;
 use crate::making::make_play;
 use crate::summary::{PlayCounts, Summary};
 use card_set::{Memory, TryPush, TryWrite, try_format};
+use hand_canon::SoundPlays;
 use std::alloc::Global;
 
 /// The summary of `count` hands made from a seed, with one hand in memory at a time.
@@ -25,20 +26,12 @@ pub fn load(alloc: Global, seed: u64, count: u32) -> Result<Summary, Memory>
     let mut number = seed;
     let mut summary = no_hands();
     for place in 0..count {
-        let made = match make_play(alloc, place, number) {
-            Ok(made) => made,
-            Err(memory) => return Err(memory),
-        };
+        let made = make_play(alloc, place, number)?;
         number = made.number;
         let mut file = Vec::new(alloc);
-        match file.try_push(made.play) {
-            Ok(()) => {}
-            Err(memory) => return Err(memory),
-        }
-        let counts = match counts_of(alloc, file.as_slice()) {
-            Ok(counts) => counts,
-            Err(memory) => return Err(memory),
-        };
+        file.try_push(made.play)?;
+        let plays = SoundPlays::new(file.as_slice());
+        let counts = counts_of(alloc, &plays)?;
         summary = with_counts(summary, counts, place);
     }
     Ok(summary)

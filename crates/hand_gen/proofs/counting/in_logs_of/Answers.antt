@@ -10,7 +10,8 @@ use Rattle.hand_gen.proofs.counting.in_logs_of.Goals as goal
 use Rattle.hand_canon.specs.WriteRefusals.{IsOutOfMemory, first_refusal}
 
 pub returns-in-Ok : goal.returns-in-Ok
-returns-in-Ok c = λ play one game_is.
+returns-in-Ok c = λ play single game_is.
+    let one = c.as_slice.ensures.same ∙ single in
     let game = c.args.game.now in
     fits game game_is
     (written_is (unspelled game keeps.All play) (length (log_text game.no_limit (play ∷ []))) c.spelled_in.result
@@ -19,7 +20,8 @@ returns-in-Ok c = λ play one game_is.
     (c.spelled_in.ensures.bytes ∙ c.len.ensures ∙ c.in-Ok.bytes.ok.0 ∙ ap length (c.in-Ok.ensures.written ∙ ap (log_text game.no_limit) one)))
 
 pub returns-in-Err-Unspelled : goal.returns-in-Err-Unspelled
-returns-in-Err-Unspelled c = λ play one game_is.
+returns-in-Err-Unspelled c = λ play single game_is.
+    let one = c.as_slice.ensures.same ∙ single in
     let game = c.args.game.now in
     let refusal = c.in-Err-Unspelled.field-0 in
     fits game game_is

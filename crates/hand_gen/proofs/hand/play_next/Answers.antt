@@ -16,13 +16,13 @@ returns-in-None-clause-step g c = λ setup start made.
     let it = nothing_more setup start c.args.hand.now.betting c.args.hand.now.cards c.args.script.now c.args.stock.now c.next.new.stock made (c.in-None.ensures.event past made.stands) (c.in-None.ensures.left past made.stands) in
     (refl, record { ended = it.0; left = it.1 })
 
-pub returns-in-Ok-push-clause-step : goal.returns-in-Ok-push-clause-step
-returns-in-Ok-push-clause-step g c = λ setup start made.
+pub returns-clause-step : goal.returns-clause-step
+returns-clause-step g c = λ setup start made.
     let script : List Event = c.args.script.now in
     let past : Past = past_of setup (backward script) in
     let event : Event = record { at = c.len.result + 1; kind = c.in-Some.kind } in
     let hand = c.advance.new.self in
-    let pushed : c.push.new.self ≡ script ++ event ∷ [] = c.in-Ok-push.ensures.pushed in
+    let pushed : c.push.new.self ≡ script ++ event ∷ [] = c.in_ok-push.ensures.pushed in
     let more = one_event_more setup start c.args.hand.now.betting hand.betting c.args.hand.now.cards hand.cards script event c.args.stock.now c.next.new.stock made
     (c.in-Some.ensures.event past made.stands) (c.in-Some.ensures.left past made.stands) (c.in-Ok.ensures.advanced.stands past made.stands) c.in-Ok.ensures.advanced.same.hand.setup c.in-Ok.ensures.advanced.same.hand.rules (ap (λ n. n + 1) c.len.ensures) in (
       subst (λ (s : List Event). IsMadeTo setup start hand.betting hand.cards s c.next.new.stock) (sym pushed) more,

@@ -28,31 +28,31 @@ play_next-requires-clause-few g c =
 pub loop-script-smaller : goal.loop-script-smaller
 loop-script-smaller g c =
     let new = c.play_next.new in
-    let step = subst (λ (came : Bool). IsStep c.args.setup.now c.args.stock.now c.loop-script.script new.hand.betting new.hand.cards new.script new.stock came) c.in-Ok-true.field-0-test
-    (c.in-Ok-true.ensures.step c.args.setup.now c.args.stock.now c.loop-script.invariant) in
+    let step = subst (λ (came : Bool). IsStep c.args.setup.now c.args.stock.now c.loop-script.script new.hand.betting new.hand.cards new.script new.stock came) c.if-not-made.false
+    (c.in_ok-made.ensures.step c.args.setup.now c.args.stock.now c.loop-script.invariant) in
     let going = underway c.args.setup.now c.args.stock.now c.loop-script.hand.betting c.loop-script.hand.cards c.loop-script.script c.loop-script.stock c.requires.small c.requires.deck c.loop-script.invariant in
     omega (arith, step.1, few_so_far c.loop-script.hand.betting c.loop-script.hand.cards c.loop-script.script c.loop-script.stock going)
 
 pub loop-script-preserved : goal.loop-script-preserved
 loop-script-preserved g c =
     let new = c.play_next.new in
-    let step = subst (λ (came : Bool). IsStep c.args.setup.now c.args.stock.now c.loop-script.script new.hand.betting new.hand.cards new.script new.stock came) c.in-Ok-true.field-0-test
-    (c.in-Ok-true.ensures.step c.args.setup.now c.args.stock.now c.loop-script.invariant) in
+    let step = subst (λ (came : Bool). IsStep c.args.setup.now c.args.stock.now c.loop-script.script new.hand.betting new.hand.cards new.script new.stock came) c.if-not-made.false
+    (c.in_ok-made.ensures.step c.args.setup.now c.args.stock.now c.loop-script.invariant) in
     step.0
 
-pub returns-in-Ok-false-clause-within : goal.returns-in-Ok-false-clause-within
-returns-in-Ok-false-clause-within g c =
+pub returns-then-not-made-clause-within : goal.returns-then-not-made-clause-within
+returns-then-not-made-clause-within g c =
     let new = c.play_next.new in
-    let step = subst (λ (came : Bool). IsStep c.args.setup.now c.args.stock.now c.loop-script.script new.hand.betting new.hand.cards new.script new.stock came) c.in-Ok-false.field-0-test
-    (c.in-Ok-false.ensures.step c.args.setup.now c.args.stock.now c.loop-script.invariant) in
+    let step = subst (λ (came : Bool). IsStep c.args.setup.now c.args.stock.now c.loop-script.script new.hand.betting new.hand.cards new.script new.stock came) c.if-not-made.true
+    (c.in_ok-made.ensures.step c.args.setup.now c.args.stock.now c.loop-script.invariant) in
     subst (λ (s : List Event). IsWithinLimits (map said_of s)) (sym step.0)
     (made_within c.args.setup.now c.args.stock.now c.loop-script.script c.requires.small c.requires.deck c.loop-script.invariant.come)
 
-pub returns-in-Ok-false-clause-legal : goal.returns-in-Ok-false-clause-legal
-returns-in-Ok-false-clause-legal g c =
+pub returns-then-not-made-clause-legal : goal.returns-then-not-made-clause-legal
+returns-then-not-made-clause-legal g c =
     let new = c.play_next.new in
-    let step = subst (λ (came : Bool). IsStep c.args.setup.now c.args.stock.now c.loop-script.script new.hand.betting new.hand.cards new.script new.stock came) c.in-Ok-false.field-0-test
-    (c.in-Ok-false.ensures.step c.args.setup.now c.args.stock.now c.loop-script.invariant) in
+    let step = subst (λ (came : Bool). IsStep c.args.setup.now c.args.stock.now c.loop-script.script new.hand.betting new.hand.cards new.script new.stock came) c.if-not-made.true
+    (c.in_ok-made.ensures.step c.args.setup.now c.args.stock.now c.loop-script.invariant) in
     let ended = subst (λ (s : List Event). next_event c.args.setup.now history_rules c.args.stock.now (backward s) ≡ None) step.0 step.1.ended in
     subst (λ (s : List Event). IsLegalHand c.args.setup.now history_rules (map said_of s)) (sym step.0)
     (made_legal c.args.setup.now c.args.stock.now c.loop-script.script c.requires.small c.requires.deck c.loop-script.invariant.come ended)

@@ -13,7 +13,7 @@ loop-place-preserved c =
     let card : Card = c.card_with_index-card.result in
     let has = c.in_deck.result in
     let in_deck : is_in_deck c.args.code card ≡ has = sym (ap (λ (code : Code). is_in_deck code card) c.of-table.ensures) ∙ sym c.in_deck.ensures in
-    c.in-Ok.ensures
+    c.in_ok-push_if.ensures
     ∙ ap (λ (l : List Card). l ++ cond has (card ∷ []) []) c.loop-place.invariant
     ∙ sym (one_place_more c.args.code c.loop-place.place card has c.card_with_index-card.ensures.card in_deck)
 
