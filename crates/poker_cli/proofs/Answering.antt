@@ -5,7 +5,6 @@ use Rattle.std.specs.declared.string.String.{String}
 use Rattle.std.proofs.Math.ListN.{replicate}
 use Rattle.std.proofs.lemmas.List.{length-replicate}
 use Rattle.std.proofs.lemmas.Option.{same_Some}
-use Rattle.acpc_game.specs.declared.game.Game.{Game}
 use Rattle.card_set.specs.Refusal.{WasRefused}
 use Rattle.command_words.specs.Command as commands
 use Rattle.command_words.specs.Command.{Command, input_of, reads_input}
@@ -37,9 +36,7 @@ use Rattle.poker_cli.specs.Each as each_said
 use Rattle.poker_cli.specs.GameFiles as game_files
 use Rattle.poker_cli.specs.Judge as in_judge
 use Rattle.poker_cli.specs.Texts.{IsTextOf}
-use Rattle.poker_cli.specs.FaultAnswers.{IsFaultAnswer, IsTextAnswer, answer_said}
-use Rattle.poker_cli.specs.declared.answer.Answer as made
-use Rattle.poker_cli.specs.declared.no_answer.NoAnswerError.{NoAnswerError}
+use Rattle.poker_cli.specs.FaultAnswers.{IsFaultAnswer, IsTextAnswer}
 use Rattle.poker_cli.specs.declared.game_files.GameFileError.{GameFileError}
 use Rattle.poker_cli.specs.declared.game_files.GameFileError.TheVariants as lacks
 use Rattle.poker_cli.specs.Run.{AsksForFile, Ends, EndsLeaving, IsFileMissing, IsGameMissing, IsOwn, IsWithoutFile, MayEnd, Needs, OfBytes, OfNamed, ReadsHands, Sinks, PrintsLine, Writes, WhereNeeded, WhereShown, line_of, needs_of}

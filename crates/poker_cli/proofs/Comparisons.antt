@@ -1,30 +1,24 @@
 -- A comparison has one answer, and is done if and only if the hands of both files are the same; a
 -- conversion is the same as its source, and two files are the same if and only if they are
 -- converted to the same output.
-use Rattle.std.proofs.Common.{◌≡◌, ◌⊎◌, ◌↔◌, ℕ, ◌+◌, ◌≤◌, ◌==◌, Bool, true, false, if◌then◌else◌, suc, List, [], ◌∷◌, length, Option, Some, None, refl, sym, subst, ap, ap₂, ◌∙◌, arith}
+use Rattle.std.proofs.Common.{◌≡◌, ◌⊎◌, ◌↔◌, ℕ, ◌+◌, ◌≤◌, ◌==◌, Bool, true, false, if◌then◌else◌, List, [], ◌∷◌, length, Option, Some, None, refl, sym, subst, ap, ap₂, ◌∙◌, arith}
 use Rattle.std.specs.List.{AllByRecursion}
 use Rattle.std.specs.Option.{option_map, option_or}
 use Rattle.std.proofs.lemmas.Bool.{eq-eqb, eqb-true}
-use Rattle.std.proofs.lemmas.Option.{same_Some}
 use Rattle.command_words.specs.Command as commands
 use Rattle.command_words.specs.Words.{Request}
 use Rattle.convert_core.specs.FormatLaws.{lawful_of}
 use Rattle.convert_core.specs.Conversion.{ReadAsPlays}
-use Rattle.convert_core.specs.declared.refusal.Refusal.{Refusal}
 use Rattle.convert_core.proofs.Conversions.{all_both, all_turned}
 use Rattle.convert_core.proofs.KeptByChoice.{again_spelled}
-use Rattle.convert_core.proofs.LawfulNotations.{AreReadSame, IsReadAgain, never_refused, no_fault, read_again, read_few, read_same, read_sound}
-use Rattle.convert_core.proofs.OneConversion.{all_same}
-use Rattle.convert_core.proofs.OneOutcome.{same_refused}
+use Rattle.convert_core.proofs.LawfulNotations.{IsReadAgain, never_refused, no_fault, read_again, read_few, read_same, read_sound}
 use Rattle.convert_core.proofs.Paired.{each_both, each_spelled, paired_below, paired_both, paired_turned}
 use Rattle.first_fault.specs.declared.limits.TheConstants.{MOST_HANDS}
 use Rattle.hand_canon.specs.Sound.{IsSound}
 use Rattle.hand_differences.proofs.SameHands.{made_none, neither, same_traces, same_with_notes}
-use Rattle.hand_differences.specs.FirstDifference.{PlainDifference, first_difference, note_difference, play_difference}
-use Rattle.hand_canon.specs.SaidNotes.{SaidNotes}
-use Rattle.hand_canon.specs.SameHands.{AllPaired, AreSameHand, AreSameHands, kept_notes}
+use Rattle.hand_differences.specs.FirstDifference.{PlainDifference, first_difference}
+use Rattle.hand_canon.specs.SameHands.{AllPaired, AreSameHands, kept_notes}
 use Rattle.hand_canon.specs.declared.trace.Play.{Play}
-use Rattle.hand_canon.specs.declared.trace.Trace.{Trace}
 use Rattle.hand_canon.specs.declared.writing.Keep.{Keep}
 use Rattle.hand_canon.specs.declared.writing.Keep.TheVariants as keeps
 use Rattle.poker_cli.specs.Answer as answers
@@ -37,7 +31,7 @@ use Rattle.poker_cli.specs.Asked.{IsAsked}
 use Rattle.poker_cli.specs.Compare.{DifferentHand, IsComparedWith, compared, compared_by, first_different, to_other_count, to_same}
 use Rattle.poker_cli.specs.ComparedRuns.{BothRead}
 use Rattle.poker_cli.specs.Headline.{ConvertsInto}
-use Rattle.convert_core.specs.Formats.{AreSameIn, HaveFault, SayRecords, first_refusal_in, kept_in, meaning_of, unspelled_in}
+use Rattle.convert_core.specs.Formats.{AreSameIn, SayRecords, first_refusal_in, kept_in, meaning_of, unspelled_in}
 use Rattle.poker_cli.specs.Run.{Ends, RefusesNothing, Sinks}
 use Rattle.poker_cli.specs.declared.status.Status.{Status}
 use Rattle.poker_cli.specs.declared.status.Status.TheVariants as statuses

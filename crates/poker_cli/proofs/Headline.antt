@@ -1,5 +1,5 @@
 -- How a conversion ends follows from the answer to its input.
-use Rattle.std.proofs.Common.{◌≡◌, ◌⊎◌, ◌||◌, ℕ, ◌≤◌, true, List, length, Option, Some, None, IfSome, refl, sym, subst, ap, inl, inr, arith}
+use Rattle.std.proofs.Common.{◌≡◌, ◌⊎◌, ◌||◌, ℕ, ◌≤◌, true, List, length, Option, Some, None, IfSome, refl, subst, inl, inr, arith}
 use Rattle.acpc_game.specs.declared.game.Game.{Game as AnyGame}
 use Rattle.command_words.specs.Command as commands
 use Rattle.command_words.specs.Command.{Command, is_log, names_log, reads_file}
@@ -30,7 +30,6 @@ use Rattle.poker_cli.specs.NamedFormats.{format_under, in_formats_under, in_plai
 use Rattle.poker_cli.specs.declared.status.Status.{Status}
 use Rattle.poker_cli.specs.declared.status.Status.TheVariants as statuses
 use Rattle.convert_core.specs.declared.format.Format.{Format}
-use Rattle.convert_core.specs.declared.format.Format.TheVariants as readers
 use Rattle.poker_cli.proofs.Answering.{is_to_unread, where_told}
 use Rattle.poker_cli.proofs.OneAnswer.{as_asked, legal_in_way, no_file_missing, no_missing}
 use Rattle.card_set.proofs.Options.{some_more}

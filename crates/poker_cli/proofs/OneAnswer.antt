@@ -20,22 +20,20 @@ use Rattle.hand_canon.specs.declared.writing.Unspelled.{Unspelled}
 use Rattle.hand_canon.specs.declared.writing.WriteRefusal.TheVariants as refusals
 use Rattle.hand_canon.specs.declared.trace.Play.{Play}
 use Rattle.hand_canon.specs.declared.trace.Trace.{Trace}
-use Rattle.play_event.specs.declared.event.Event.{Event}
 use Rattle.play_event.specs.declared.setup.Setup.{Setup}
 use Rattle.printed_hands.specs.Check.{check_end, check_line, check_said, each_hand}
 use Rattle.printed_hands.specs.Steps.{replay_lines}
 use Rattle.printed_hands.specs.Report.{Hand, Seated, hand_of, report_on, seated_in}
 use Rattle.hand_canon.specs.LegalPlay.{IsLegalPlay}
 use Rattle.convert_core.specs.FormatLaws.{lawful_of}
-use Rattle.convert_core.specs.Judged.{ArePlaysOf, IsFirstRefused}
-use Rattle.convert_core.specs.declared.refusal.Refusal.{Refusal}
+use Rattle.convert_core.specs.Judged.{ArePlaysOf}
 use Rattle.convert_core.specs.declared.format_fault.FormatFault.{FormatFault}
 use Rattle.convert_core.specs.SameRecords.{AllAlike, AreAlike, SayTheSame}
 use Rattle.convert_core.proofs.Conversions.{all_less, same_refusal}
-use Rattle.convert_core.proofs.LawfulNotations.{AreReadSame, all_read_same, no_fault, one_fault}
+use Rattle.convert_core.proofs.LawfulNotations.{AreReadSame, no_fault}
 use Rattle.convert_core.proofs.OneConversion.{all_same, IsReadAlike}
 use Rattle.convert_core.specs.Conversion.{ReadAsPlays}
-use Rattle.convert_core.proofs.OneOutcome.{AllTraced, no_plays, same_refused, same_traces}
+use Rattle.convert_core.proofs.OneOutcome.{AllTraced, same_refused, same_traces}
 use Rattle.poker_cli.specs.Answer.{IsAnswer, IsAnswerBeside, IsAnswerBy, IsAnswerFrom, IsAnswerIn, IsAnswerOf, IsReply}
 use Rattle.poker_cli.specs.AnswerParts.{Answer, IsAnswerTo, done, most_input, to_excess, to_fault, to_refusal, to_unspelled}
 use Rattle.poker_cli.specs.Convert.{IsConversion}
@@ -66,7 +64,7 @@ use Rattle.hand_session.specs.Hands.{Hand as SessionHand}
 use Rattle.hand_session.specs.Printed.{session_printed}
 use Rattle.hand_session.specs.Sessions.{session_of}
 use Rattle.chip_ledger.specs.declared.numbers.Seat.{Seat}
-use Rattle.poker_cli.specs.Views.{AreMessages, AreViews}
+use Rattle.poker_cli.specs.Views.{AreMessages}
 use Rattle.poker_cli.proofs.OneReply.{as_many, one_equity, one_options, one_view, same_sessions}
 use Rattle.poker_cli.proofs.OneComparison.{one_compared}
 use Rattle.poker_cli.proofs.ReadAlike.{AllReadSame, AllToldAlike, SayOrFault, one_told, read_the_same, refused_or_played, say_or_fault}

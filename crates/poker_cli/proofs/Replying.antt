@@ -17,7 +17,7 @@ use Rattle.poker_cli.specs.AnswerParts.{Answer, most_input}
 use Rattle.poker_cli.specs.Asked.{HasFile}
 use Rattle.poker_cli.specs.Compare as in_compare
 use Rattle.poker_cli.specs.Compare.{IsComparedWith, in_file, to_file_excess}
-use Rattle.poker_cli.specs.Files.{Files, FilesByName}
+use Rattle.poker_cli.specs.Files.{FilesByName}
 use Rattle.poker_cli.specs.GameFiles.{GivesGame, HasNoGame, IsGameFileErrorAnswer}
 use Rattle.command_words.specs.Words.{Plain}
 use Rattle.command_words.specs.declared.notation.PlainNotation.{PlainNotation}
@@ -26,7 +26,7 @@ use Rattle.command_words.specs.declared.notation.NotationName.{NotationName}
 use Rattle.convert_core.specs.Formats.{HaveFault, SayRecords}
 use Rattle.poker_cli.specs.OtherFile.{HasNoFile}
 use Rattle.poker_cli.specs.Replied.{ComesFirst, HasNoReply}
-use Rattle.poker_cli.specs.Run.{AsksInOrder, GivesNone, GivesSome, IsMissing, IsNotThere, IsUseless, IsWithout, Lacks, MissesFile, MissesGame, Needs, OfBytes, OfFile, OfNamed, WhereNeeded, WhereShown, needs}
+use Rattle.poker_cli.specs.Run.{AsksInOrder, GivesSome, IsMissing, IsNotThere, IsUseless, IsWithout, Lacks, MissesFile, MissesGame, Needs, OfBytes, OfFile, OfNamed, WhereNeeded, WhereShown, needs}
 use Rattle.poker_cli.specs.FaultAnswers.{IsFaultAnswer, answer_said}
 use Rattle.poker_cli.specs.declared.answer.Answer as made
 use Rattle.poker_cli.specs.declared.other_file.NoFileError.TheVariants as no_files

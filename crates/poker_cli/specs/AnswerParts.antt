@@ -1,7 +1,7 @@
 -- What all commands share: an answer has an exit status, an output and a diagnostic line; and the
 -- answers to an input that is too long, that cannot be read as hands, or that has a refused hand;
 -- and to a hand number that is too high.
-use Rattle.std.specs.Prelude.{ℕ, List, [], ◌≡◌, codes, Option, Some, None, if◌then◌else◌, ◌+◌, ◌-◌, ◌++◌, slice_get}
+use Rattle.std.specs.Prelude.{ℕ, List, [], ◌≡◌, codes, Option, Some, None, if◌then◌else◌, ◌-◌, ◌++◌, slice_get}
 use Rattle.std.specs.Fmt.{decimal}
 use Rattle.convert_core.specs.Conversion.{ReadAsPlays, ReadAsRefused}
 use Rattle.convert_core.specs.FaultText.{format_text, refusal_text}

@@ -1,6 +1,6 @@
 -- The answer of `compare`: the hands are the same, or the first that differs is named, or the two
 -- numbers of hands.
-use Rattle.std.specs.Prelude.{◌==◌, ℕ, ◌+◌, Bool, if◌then◌else◌, List, [], ◌∷◌, ◌++◌, length, codes, Option, Some, None, option_map, ◌≡◌, ◌<◌, ◌≤◌}
+use Rattle.std.specs.Prelude.{◌==◌, ℕ, ◌+◌, Bool, if◌then◌else◌, List, [], ◌∷◌, ◌++◌, length, codes, Option, Some, None, option_map, ◌≡◌}
 use Rattle.std.specs.Option.{option_or}
 use Rattle.std.specs.Fmt.{decimal}
 use Rattle.convert_core.specs.Conversion.{ReadAsPlays, ReadAsRefused}
@@ -9,7 +9,7 @@ use Rattle.convert_core.specs.declared.refusal.Refusal.{Refusal}
 use Rattle.hand_differences.specs.DifferenceText.{difference_text}
 use Rattle.hand_differences.specs.FirstDifference.{PlainDifference, difference_said, first_difference}
 use Rattle.hand_canon.specs.declared.trace.Play.{Play}
-use Rattle.poker_cli.specs.AnswerParts.{Answer, IsAnswerTo, done, most_input, refusal, to_excess, to_fault, to_refusal}
+use Rattle.poker_cli.specs.AnswerParts.{Answer, done, most_input, refusal, to_fault, to_refusal}
 use Rattle.convert_core.specs.Formats.{HaveFault, SayRecords}
 use Rattle.poker_cli.specs.Limits.{excess_line}
 use Rattle.poker_cli.specs.declared.compare.HandDifference.{HandDifference}

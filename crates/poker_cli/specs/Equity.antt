@@ -1,5 +1,5 @@
 -- What `equity` answers: how often each live seat would win from a street on.
-use Rattle.std.specs.Prelude.{◌≡◌, ℕ, ◌+◌, List, ◌++◌, length, codes, Some, None}
+use Rattle.std.specs.Prelude.{◌≡◌, ℕ, List, ◌++◌, length, codes, Some, None}
 use Rattle.std.specs.Fmt.{decimal}
 use Rattle.chip_ledger.specs.declared.numbers.Seat.{Seat}
 use Rattle.hand_equity.specs.declared.refusal.NoEquity.TheVariants as lacking

@@ -1,5 +1,5 @@
 -- What `options` answers: the legal moves at a point of a hand.
-use Rattle.std.specs.Prelude.{◌≡◌, ℕ, ◌+◌, ◌<◌, ◌≤◌, List, ◌++◌, length, codes, Some, None}
+use Rattle.std.specs.Prelude.{◌≡◌, ℕ, ◌<◌, ◌≤◌, List, ◌++◌, length, codes, Some, None}
 use Rattle.std.specs.Fmt.{decimal}
 use Rattle.hand_options.specs.declared.choices.Options.{Options}
 use Rattle.hand_options.specs.Legal.{AreOptions}

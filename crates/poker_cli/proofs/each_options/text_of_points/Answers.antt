@@ -1,5 +1,5 @@
 -- The options at every point, and the verdict after them.
-use Rattle.std.proofs.Common.{◌≡◌, ◌++◌, ◌∙◌, List, ℕ, [], ap, string_bytes, length, arith}
+use Rattle.std.proofs.Common.{◌++◌, ◌∙◌, List, ℕ, ap, arith}
 use Rattle.std.proofs.lemmas.List.{length-map}
 use Rattle.play_event.specs.Said.{said_of}
 use Rattle.poker_cli.specs.Each.{refusal_line}

@@ -1,5 +1,5 @@
 -- The part is begun by the events before the first illegal one.
-use Rattle.std.proofs.Common.{◌≤◌, string_bytes, length, arith}
+use Rattle.std.proofs.Common.{arith}
 use Rattle.std.proofs.lemmas.List.{length-map}
 use Rattle.std.proofs.lemmas.Result.{on_ok_weaker}
 use Rattle.play_event.specs.Said.{said_of}

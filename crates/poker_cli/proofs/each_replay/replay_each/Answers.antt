@@ -1,5 +1,5 @@
 -- One hand after the other.
-use Rattle.std.proofs.Common.{List, ℕ, subst, sym, string_bytes, arith}
+use Rattle.std.proofs.Common.{List, subst, string_bytes, arith}
 use Rattle.std.proofs.lemmas.List.{take_all}
 use Rattle.hand_canon.specs.declared.record.Record.{Record}
 use Rattle.poker_cli.specs.Each.{AreReplayedAlone}

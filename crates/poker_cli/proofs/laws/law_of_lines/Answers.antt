@@ -1,4 +1,4 @@
-use Rattle.std.proofs.Common.{◌≡◌, ◌∙◌, List, length, map, sym}
+use Rattle.std.proofs.Common.{◌≡◌, ◌∙◌, List, length, sym}
 use Rattle.std.proofs.lemmas.List.{length-map}
 use Rattle.std.proofs.lemmas.Result.{IfOk-at_ok}
 use Rattle.acpc_reading.proofs.HandLines as in_log
