@@ -12,7 +12,7 @@ use Rattle.clap.specs.Walk.{Text}
 use Rattle.command_words.specs.GivenOptions.{GivenOptions, no_options, options_said}
 use Rattle.command_words.specs.Command.{Command}
 use Rattle.command_words.specs.Request.{under_game}
-use Rattle.command_words.specs.Words.{Request, command_by, request_by, request_said}
+use Rattle.command_words.specs.Words.{command_by, request_by, request_said}
 use Rattle.command_words.specs.declared.notation.NotationName.{NotationName}
 use Rattle.std.proofs.lemmas.Option.{same_Some}
 

@@ -1,5 +1,5 @@
 -- What the words of `convert` ask for.
-use Rattle.std.specs.Prelude.{ℕ, Bool, false, if◌then◌else◌, List, Option, Some, None}
+use Rattle.std.specs.Prelude.{Bool, false, if◌then◌else◌, Option, Some, None}
 use Rattle.command_words.specs.GivenOptions.{GivenOptions, are_none}
 use Rattle.command_words.specs.Command.{Command, with_both}
 use Rattle.command_words.specs.Notations.{notation_named}

@@ -1,5 +1,5 @@
 -- What the words of `equity` ask for.
-use Rattle.std.specs.Prelude.{ℕ, if◌then◌else◌, List, Option, None, Some, option_and_then, option_map}
+use Rattle.std.specs.Prelude.{if◌then◌else◌, Option, None, option_and_then, option_map}
 use Rattle.command_words.specs.GivenOptions.{GivenOptions, are_none}
 use Rattle.command_words.specs.Command.{Command, with_both}
 use Rattle.command_words.specs.Notations.{notation_named}

@@ -1,5 +1,5 @@
 -- What the words of `game` ask for.
-use Rattle.std.specs.Prelude.{ℕ, if◌then◌else◌, List, Option, None, option_map}
+use Rattle.std.specs.Prelude.{if◌then◌else◌, Option, None, option_map}
 use Rattle.command_words.specs.GivenOptions.{GivenOptions, are_none}
 use Rattle.command_words.specs.Notations.{notation_named}
 use Rattle.command_words.specs.Command as commands

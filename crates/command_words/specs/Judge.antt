@@ -1,5 +1,5 @@
 -- What the words of `judge` ask for.
-use Rattle.std.specs.Prelude.{ℕ, Bool, true, false, if◌then◌else◌, List, Option, Some, None, option_and_then}
+use Rattle.std.specs.Prelude.{Bool, true, false, if◌then◌else◌, Option, Some, None, option_and_then}
 use Rattle.command_words.specs.GivenOptions.{GivenOptions, are_none}
 use Rattle.command_words.specs.Notations.{notation_named}
 use Rattle.command_words.specs.Command as commands

@@ -1,5 +1,5 @@
 -- What the words of `replay` ask for.
-use Rattle.std.specs.Prelude.{ℕ, Bool, if◌then◌else◌, false, List, Option, None, option_map}
+use Rattle.std.specs.Prelude.{Bool, if◌then◌else◌, false, Option, None, option_map}
 use Rattle.command_words.specs.GivenOptions.{GivenOptions, are_none}
 use Rattle.command_words.specs.Notations.{notation_named}
 use Rattle.command_words.specs.Command as commands

@@ -1,5 +1,5 @@
 -- What the words of `session` ask for.
-use Rattle.std.specs.Prelude.{ℕ, List, Option, option_map}
+use Rattle.std.specs.Prelude.{Option, option_map}
 use Rattle.command_words.specs.GivenOptions.{GivenOptions}
 use Rattle.command_words.specs.Request.{input_alone}
 use Rattle.command_words.specs.Command as commands

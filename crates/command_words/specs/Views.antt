@@ -1,5 +1,5 @@
 -- What the words of `views` ask for.
-use Rattle.std.specs.Prelude.{ℕ, if◌then◌else◌, List, Option, Some, None, option_and_then}
+use Rattle.std.specs.Prelude.{if◌then◌else◌, Option, Some, None, option_and_then}
 use Rattle.command_words.specs.GivenOptions.{GivenOptions, are_none}
 use Rattle.command_words.specs.Command.{Command, with_both}
 use Rattle.command_words.specs.Notations.{notation_named}

@@ -1,7 +1,6 @@
--- No reader needs this file: it is a proof. That a record is sound has one proof at most, which the
--- checker needs where a type keeps that fact.
+-- A record is sound in one way, which the checker needs where a type keeps that fact.
+-- This is a proof: no reader needs it.
 use Rattle.std.specs.Prelude.{ℕ, Bool, true, false}
-use Rattle.std.specs.Coded.{le_prop}
 use Rattle.std.proofs.Props.{props}
 use Rattle.play_event.specs.ValidSetup.{IsSizeWhere}
 use Rattle.hand_canon.specs.SoundRecord.{IsSoundRecord}

@@ -1,9 +1,7 @@
 -- A line is made of its pieces.
-use Rattle.std.proofs.Common.{[], ◌∷◌, ◌++◌}
-use Rattle.card_set.proofs.Results.{on_ok}
 use Rattle.acpc_format.proofs.Totals.{sound_few}
 use Rattle.acpc_view.specs.View.{head_text, seen_text, view_line}
-use Rattle.acpc_view.proofs.Writing.{four_pieces, when_ok}
+use Rattle.acpc_view.proofs.Writing.{four_pieces}
 use Rattle.acpc_view.proofs.viewing.push_view.Goals as goal
 
 pub push_seen-requires-clause-few : goal.push_seen-requires-clause-few
