@@ -17,7 +17,7 @@ use Rattle.hand_order.proofs.SetCounts.{four_suits}
 use Rattle.hand_order.proofs.SuitedHands.{of_suit}
 use Rattle.badugi_rank.specs.Badugi.{candidates, choice_points, points}
 use Rattle.badugi_rank.specs.BadugiLaw.{choice_value, some_points}
-use Rattle.badugi_rank.specs.Rainbow.{IsMost, taken_points}
+use Rattle.badugi_rank.specs.Rainbow.{IsMost, points_of_ranks}
 use Rattle.badugi_rank.proofs.BadugiAlike.{choice_alike}
 use Rattle.badugi_rank.proofs.RainbowCards.{apart_different, none_made, suit_made, suit_one}
 use Rattle.badugi_rank.proofs.RainbowRanks.{ShowsCards, points_shown, ranks_shown, once_high}
@@ -81,7 +81,7 @@ chosen_most set listing c d h s most lists masks is choice value among pointed =
     (suit_one set listing suits.H h choice lists masks.hearts apart inside) (suit_one set listing suits.S s choice lists masks.spades apart inside)
     (λ k. omega (arith, four_suits choice (k + 2), once_high choice apart k)) in
     let shows : ShowsCards can.0 choice = λ k. omega (arith, can.2.each k, four_suits choice (k + 2)) in
-    let same = same_Some value (taken_points can.0) (sym pointed ∙ points_shown can.0 choice apart few shows) in
+    let same = same_Some value (points_of_ranks can.0) (sym pointed ∙ points_shown can.0 choice apart few shows) in
     let ranks = ranks_shown can.0 choice apart few shows in
     (omega (arith, same, is.none_more can.0 can.1), omega (arith, same, ranks.1, long, chosen.some, ranks_number can.0))
 

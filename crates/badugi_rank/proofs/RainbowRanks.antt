@@ -15,7 +15,7 @@ use Rattle.hand_order.proofs.LowHeights.{aces, low_times}
 use Rattle.hand_order.proofs.SetCounts.{height_least}
 use Rattle.badugi_rank.specs.Badugi.{choice_points, has_nothing_in_common}
 use Rattle.badugi_rank.specs.BadugiLaw.{once_each}
-use Rattle.badugi_rank.specs.Rainbow.{ranks_in, taken_points}
+use Rattle.badugi_rank.specs.Rainbow.{points_of_ranks, ranks_in}
 use Rattle.std.proofs.lemmas.List.{nil_from_length}
 
 -- this number of heights from one on, highest first
@@ -139,7 +139,7 @@ ranks_shown mask cards apart few shows =
     (same ∙ sym once.0, omega (arith, once.1))
 
 -- and so are the points
-pub points_shown : (mask : ℕ) (cards : List Card) → has_nothing_in_common cards ≡ true → length cards ≤ 4 → ShowsCards mask cards → choice_points cards ≡ Some (taken_points mask)
+pub points_shown : (mask : ℕ) (cards : List Card) → has_nothing_in_common cards ≡ true → length cards ≤ 4 → ShowsCards mask cards → choice_points cards ≡ Some (points_of_ranks mask)
 points_shown mask cards apart few shows =
     let shown = ranks_shown mask cards apart few shows in
     ap (λ (b : Bool). cond b (Some (16 ^ 6 - class_above (4 - length cards) (ranks_of low_ace cards))) None) apart

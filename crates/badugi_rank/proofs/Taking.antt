@@ -4,7 +4,7 @@ use lib.Bits.{bit_or}
 use Rattle.std.proofs.Common.{◌≡◌, ℕ, ◌*◌, ◌^◌, ◌%◌, ◌≤◌, ◌==◌, Bool, true, false, cond, List, [], ◌∷◌, max, ◌⊎◌, inl, inr, refl, sym, ◌∙◌, ap, arith, eqb-true}
 use Rattle.std.specs.Int.{bit_at}
 use Rattle.std.proofs.lemmas.Bool.{cases_lt}
-use Rattle.badugi_rank.specs.Rainbow.{CanTake, IsMost, TakesOne, taken_points}
+use Rattle.badugi_rank.specs.Rainbow.{CanTake, IsMost, TakesOne, points_of_ranks}
 use Rattle.card_set.proofs.Bits.{no_bit}
 use Rattle.card_set.proofs.Tests.{passes_or_not}
 
@@ -72,7 +72,7 @@ most_either left cleared place taken with first second most others set bits is w
       }
     ]
   where
-    none_more : (other : ℕ) → CanTake left others taken other → taken_points other ≤ most
+    none_more : (other : ℕ) → CanTake left others taken other → points_of_ranks other ≤ most
     none_more other can = elim (can_either left cleared place taken with other others bits is can) [
       | inl fewer ↦ omega (arith, without.none_more other fewer)
       | inr later ↦ omega (arith, after.none_more other later)

@@ -11,8 +11,8 @@ unfoldable pub ranks_in : ℕ → List ℕ
 ranks_in mask = lowest (has_height mask) 13 1 4
 
 -- the points of a choice whose ranks are those of a mask
-abbrev pub taken_points : ℕ → ℕ
-taken_points taken = 16 ^ 6 - class_above (4 - length (ranks_in taken)) (ranks_in taken)
+abbrev pub points_of_ranks : ℕ → ℕ
+points_of_ranks taken = 16 ^ 6 - class_above (4 - length (ranks_in taken)) (ranks_in taken)
 
 -- one more of the ranks that are left is taken, or none
 abbrev pub TakesOne : ℕ → ℕ → ℕ → Type 0
@@ -32,5 +32,5 @@ CanTake left (mask ∷ others) taken ranks =
 pub record IsMost (left : ℕ) (others : List ℕ) (taken most : ℕ) : Type 0 where
   pub ranks : ℕ
   pub can : CanTake left others taken ranks
-  pub reached : taken_points ranks ≡ most
-  pub none_more : (other : ℕ) → CanTake left others taken other → taken_points other ≤ most
+  pub reached : points_of_ranks ranks ≡ most
+  pub none_more : (other : ℕ) → CanTake left others taken other → points_of_ranks other ≤ most

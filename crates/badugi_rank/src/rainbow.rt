@@ -3,10 +3,10 @@ ghost use Rattle.std.specs.Prelude.{◌≡◌, List, Some};
 ghost use Rattle.card_set.specs.declared.card.Card.{Card};
 ghost use Rattle.card_set.specs.CardSet.{count_of, IsListing};
 ghost use Rattle.badugi_rank.specs.Badugi.{points};
-ghost use Rattle.badugi_rank.specs.Rainbow.{IsMost, taken_points};
+ghost use Rattle.badugi_rank.specs.Rainbow.{IsMost, points_of_ranks};
 
 use card_set::{CardSet, Suit};
-use hand_order::{Score, class_above, clear, lowest_ranks, top};
+use hand_order::{Score, clear, lowest_ranks, make_points, top};
 
 /// The score of four cards in badugi. The rank masks of the four suits are all that is needed.
 pub fn best_rainbow(cards: &CardSet) -> Score
@@ -42,8 +42,8 @@ fn best_taken(left: u16, others: &[u16], taken: u16) -> u32
 
 // The points of a choice with these ranks.
 fn taken_points(taken: u16) -> u32
-    ensures { result ≡ taken_points taken }
+    ensures { result ≡ points_of_ranks taken }
 {
     let ranks = lowest_ranks(taken, 13, 1, 4);
-    0x100_0000 - class_above(4 - ranks.as_slice().len() as u32, ranks.as_slice())
+    0x100_0000 - make_points(4 - ranks.as_slice().len() as u32, ranks.as_slice())
 }

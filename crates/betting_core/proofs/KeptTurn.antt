@@ -9,7 +9,7 @@ use Rattle.play_event.specs.declared.limit.Opener.{Opener}
 use Rattle.play_event.specs.declared.limit.Opener.TheVariants as openers
 use Rattle.play_event.specs.Openers.{TheSeat, blinds_opener, in_turn}
 use Rattle.play_event.specs.Past.{Past}
-use Rattle.play_event.specs.Streets.{is_stud, is_opened_by_up_cards, opener_of}
+use Rattle.play_event.specs.Streets.{is_stud_game, is_opened_by_up_cards, opener_of}
 use Rattle.play_event.specs.TurnTargets.{is_bet_due}
 use Rattle.play_laws.specs.Dues.{is_move, is_before_moves}
 use Rattle.play_laws.proofs.Unsettled.{bring_in_is_due}
@@ -50,7 +50,7 @@ module _ (b : BettingState) (past : Past) (stands : StandsFor b past) (keeps : K
   kept_blinds game =
       turn_blinds b past stands (blinds_opener b.setup b.street) (opener_in b) (seat_said b.next)
       (keeps (move_of_bets b.due bets (λ is.
-      let stud : is_stud b.setup.code ≡ true = bring_in_is_due b.setup past b.street (stands.turn_is ∙ ap (λ (d : Due). (b.street, d)) is) in
+      let stud : is_stud_game b.setup.code ≡ true = bring_in_is_due b.setup past b.street (stands.turn_is ∙ ap (λ (d : Due). (b.street, d)) is) in
       true≢false (sym stud ∙ ap is_opened_by_up_cards game))))
       bets refl game
 

@@ -3,7 +3,7 @@ ghost use Rattle.std.specs.Prelude.{◌≡◌, ◌≤◌, true, false, IfSome, i
 ghost use Rattle.play_event.specs.declared.reason.Due.TheVariants as dues;
 ghost use Rattle.play_event.specs.Past.{Past};
 ghost use Rattle.play_event.specs.Openers.{TheSeat, blinds_opener, in_turn};
-ghost use Rattle.play_event.specs.Streets.{is_stud};
+ghost use Rattle.play_event.specs.Streets.{is_stud_game};
 ghost use Rattle.betting_numbers.specs.Seen.{is_move_due_seen, player_to_act_seen};
 ghost use Rattle.betting_core.specs.HandNumbers.{AreHandNumbers, IsOfTable, IsReadyToPass, IsSameHand};
 ghost use Rattle.betting_numbers.specs.Standing.{StandsFor};
@@ -59,7 +59,7 @@ impl<V: Variant> Betting<V> {
 
 // Whether the game is a stud game.
 fn stud<V: Variant>() -> bool
-    ensures { result ≡ is_stud V.CODE }
+    ensures { result ≡ is_stud_game V.CODE }
 {
     match V::OPEN {
         Opener::Blinds => false,

@@ -5,7 +5,7 @@ use Rattle.std.proofs.lemmas.Bool.{cases_eq, eq-eqb}
 use Rattle.card_set.proofs.Counting.{count_by-cons}
 use Rattle.chip_ledger.specs.LiveRow.{flag_of}
 use Rattle.chip_ledger.specs.SeatRow.{amount_of}
-use Rattle.play_event.specs.Past.{Move, Act, moves_on, is_fold, is_raise, is_bring_in}
+use Rattle.play_event.specs.Past.{Move, Act, moves_on, is_folding, is_raising, is_bringing_in}
 use Rattle.play_event.specs.Streets as streets
 use Rattle.play_event.specs.Chips.{chips_put, street_chips, chips_added, brought}
 use Rattle.play_event.specs.Seats.{is_live}
@@ -88,8 +88,8 @@ module _ (b next : BettingState) (moves : List Move) (seat target unit : ℕ) (a
   live_after : (k : ℕ) → IsSeatOf b.setup.stacks.seats k → flag_of next.live k ≡ is_live (the_move ∷ moves) k
   live_after k in_k =
       by_seat (λ k. IsSeatOf b.setup.stacks.seats k → flag_of next.live k ≡ is_live (the_move ∷ moves) k) seat k
-      (λ i. mv.live ∙ ap (λ l. l && not (is_fold act)) (st.live seat in_hand) ∙ live_one_more (is_fold act) (seat == seat) (list_any (λ move. is_fold move.act && (move.seat == seat)) moves) (same_number seat))
-      (λ other i. mv.other_live k i.first other ∙ st.live k i ∙ live_as_before (is_fold act) (seat == k) (list_any (λ move. is_fold move.act && (move.seat == k)) moves) (different_number seat k other))
+      (λ i. mv.live ∙ ap (λ l. l && not (is_folding act)) (st.live seat in_hand) ∙ live_one_more (is_folding act) (seat == seat) (list_any (λ move. is_folding move.act && (move.seat == seat)) moves) (same_number seat))
+      (λ other i. mv.other_live k i.first other ∙ st.live k i ∙ live_as_before (is_folding act) (seat == k) (list_any (λ move. is_folding move.act && (move.seat == k)) moves) (different_number seat k other))
       in_k
 
   moved_by : (k : ℕ) (mine : Bool) → (seat == k) ≡ mine → has_moved (the_move ∷ moves) b.street k ≡ (mine || has_moved moves b.street k)
@@ -122,33 +122,33 @@ module _ (b next : BettingState) (moves : List Move) (seat target unit : ℕ) (a
   raises_after : next.raises ≡ min (raises_on (the_move ∷ moves) b.street) most_raises
   raises_after =
       mv.raises
-      ∙ raise_count (is_raise act) (raises_on moves b.street) b.raises st.raises
+      ∙ raise_count (is_raising act) (raises_on moves b.street) b.raises st.raises
       ∙ ap (λ n. min n most_raises) (
-      sym (count_by-cons (λ (move : Move). is_raise move.act) the_move (moves_on b.street moves))
-      ∙ ap (count_by (λ (move : Move). is_raise move.act)) (sym this_street)
+      sym (count_by-cons (λ (move : Move). is_raising move.act) the_move (moves_on b.street moves))
+      ∙ ap (count_by (λ (move : Move). is_raising move.act)) (sym this_street)
       )
 
   full_raise_after : next.full_raise ≡ prices.full_raise b.setup (the_move ∷ moves) b.street
   full_raise_after =
       mv.full_raise
-      ∙ ap (λ p. full_raise_by (is_raise act) b.full_raise (target - p)) (current_bet_is b moves st)
-      ∙ ap (λ f. full_raise_by (is_raise act) f (target - current_bet b.setup moves b.street)) st.full_raise
-      ∙ sym (ap (λ e. if e && is_raise act && nat_le (prices.full_raise b.setup moves b.street) (target - current_bet b.setup moves b.street) then max (target - current_bet b.setup moves b.street) (prices.full_raise b.setup moves b.street) else prices.full_raise b.setup moves b.street) (same_number b.street))
+      ∙ ap (λ p. full_raise_by (is_raising act) b.full_raise (target - p)) (current_bet_is b moves st)
+      ∙ ap (λ f. full_raise_by (is_raising act) f (target - current_bet b.setup moves b.street)) st.full_raise
+      ∙ sym (ap (λ e. if e && is_raising act && nat_le (prices.full_raise b.setup moves b.street) (target - current_bet b.setup moves b.street) then max (target - current_bet b.setup moves b.street) (prices.full_raise b.setup moves b.street) else prices.full_raise b.setup moves b.street) (same_number b.street))
 
   full_bet_after : next.full_bet ≡ prices.full_bet b.setup (the_move ∷ moves) b.street
   full_bet_after =
       mv.full_bet
-      ∙ ap (λ u. full_bet_by (is_raise act || is_bring_in act) b.full_bet u target) unit_is
-      ∙ ap (λ f. full_bet_by (is_raise act || is_bring_in act) f (streets.unit b.setup b.street) target) st.full_bet
-      ∙ sym (ap (λ e. if e && (is_raise act || is_bring_in act) && nat_le (prices.full_bet b.setup moves b.street + streets.unit b.setup b.street) target then target else prices.full_bet b.setup moves b.street) (same_number b.street))
+      ∙ ap (λ u. full_bet_by (is_raising act || is_bringing_in act) b.full_bet u target) unit_is
+      ∙ ap (λ f. full_bet_by (is_raising act || is_bringing_in act) f (streets.unit b.setup b.street) target) st.full_bet
+      ∙ sym (ap (λ e. if e && (is_raising act || is_bringing_in act) && nat_le (prices.full_bet b.setup moves b.street + streets.unit b.setup b.street) target then target else prices.full_bet b.setup moves b.street) (same_number b.street))
 
   always_floor_after : next.always_floor ≡ greatest (doubled_raises b.setup (the_move ∷ moves) b.street)
   always_floor_after =
       mv.always_floor
-      ∙ ap (λ p. if is_raise act then max (2 * target - p) b.always_floor else b.always_floor) (current_bet_is b moves st)
-      ∙ ap (λ d. if is_raise act then max (2 * target - current_bet b.setup moves b.street) d else d) st.always_floor
-      ∙ doubled_one_more (is_raise act) (2 * target - current_bet b.setup moves b.street) (doubled_raises b.setup moves b.street)
-      ∙ sym (ap (λ e. greatest (if e && is_raise act then ((2 * target - current_bet b.setup moves b.street) ∷ doubled_raises b.setup moves b.street) else doubled_raises b.setup moves b.street)) (same_number b.street))
+      ∙ ap (λ p. if is_raising act then max (2 * target - p) b.always_floor else b.always_floor) (current_bet_is b moves st)
+      ∙ ap (λ d. if is_raising act then max (2 * target - current_bet b.setup moves b.street) d else d) st.always_floor
+      ∙ doubled_one_more (is_raising act) (2 * target - current_bet b.setup moves b.street) (doubled_raises b.setup moves b.street)
+      ∙ sym (ap (λ e. greatest (if e && is_raising act then ((2 * target - current_bet b.setup moves b.street) ∷ doubled_raises b.setup moves b.street) else doubled_raises b.setup moves b.street)) (same_number b.street))
 
   opened_after : next.bet_or_bring_in_made ≡ list_any (λ move. has_opened_betting move.act) (moves_on b.street (the_move ∷ moves))
   opened_after =

@@ -13,7 +13,7 @@ use Rattle.play_event.specs.Seats.{is_live, can_act, live_count, able_count}
 use Rattle.play_event.specs.CurrentBet.{current_bet, to_call}
 use Rattle.chip_ledger.specs.Greatest.{greatest}
 use Rattle.play_event.specs.Due.{has_to_move, has_acted_since_raise, is_move_due, is_bring_in_due}
-use Rattle.play_event.specs.Streets.{is_stud}
+use Rattle.play_event.specs.Streets.{is_stud_game}
 use Rattle.play_event.specs.Openers.{InTurn, NoSeat, TheSeat, Undecided, in_turn, seat_after}
 use Rattle.play_event.specs.PlayerToAct.{player_to_act_after, first_in_turn, next_in_turn}
 use Rattle.play_event.specs.Raising.{has_able_opponent}
@@ -93,8 +93,8 @@ module _ (b : BettingState) (moves : List Move) (st : Standing b.setup b.street 
 
   pub bring_in_due_is : is_bring_in_due_seen b ≡ is_bring_in_due b.setup moves b.street
   bring_in_due_is =
-      ap (λ c. is_stud b.setup.code && (b.street == 1) && nat_le 2 c && not b.bet_or_bring_in_made) able_count_is
-      ∙ ap (λ o. is_stud b.setup.code && (b.street == 1) && nat_le 2 (able_count b.setup moves) && not o) st.bet_or_bring_in_made
+      ap (λ c. is_stud_game b.setup.code && (b.street == 1) && nat_le 2 c && not b.bet_or_bring_in_made) able_count_is
+      ∙ ap (λ o. is_stud_game b.setup.code && (b.street == 1) && nat_le 2 (able_count b.setup moves) && not o) st.bet_or_bring_in_made
 
   pub opponent_is : (seat : ℕ) → has_opponent_seen b seat ≡ has_able_opponent b.setup moves seat
   opponent_is seat =

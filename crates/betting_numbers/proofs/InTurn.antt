@@ -8,7 +8,7 @@ use Rattle.play_event.specs.declared.reason.Due.TheVariants as dues
 use Rattle.play_event.specs.declared.reason.Illegal.{Illegal}
 use Rattle.play_event.specs.declared.setup.Setup.{Setup}
 use Rattle.play_event.specs.declared.limit.Opener.TheVariants as openers
-use Rattle.play_event.specs.Streets.{opener_of, limit_of, is_stud, is_opened_by_up_cards}
+use Rattle.play_event.specs.Streets.{opener_of, limit_of, is_stud_game, is_opened_by_up_cards}
 use Rattle.play_event.specs.Said.{Said}
 use Rattle.play_event.specs.Past.{Past, Move, moves_of, Moved, Folded, Called, Raised, BroughtIn}
 use Rattle.play_event.specs.Seats.{all_seats}
@@ -144,7 +144,7 @@ bring_in_now dues.Show is = absurd (cc)
 -- a bring-in is never due in a game with blinds
 no_bring_in : (b : BettingState) (past : Past) → StandsFor b past → opener_of b.setup.code ≡ openers.Blinds → b.due ≡ dues.BringIn → ⊥
 no_bring_in b past stands game due_is =
-    let stud : is_stud b.setup.code ≡ true = bring_in_is_due b.setup past b.street (stands.turn_is ∙ ap (λ (d : Due). (b.street, d)) due_is) in
+    let stud : is_stud_game b.setup.code ≡ true = bring_in_is_due b.setup past b.street (stands.turn_is ∙ ap (λ (d : Due). (b.street, d)) due_is) in
     true≢false (sym stud ∙ ap is_opened_by_up_cards game)
 
 -- somebody has to move if betting is due in a game with blinds

@@ -4,7 +4,7 @@ use Rattle.std.proofs.Common.{◌≡◌, ℕ, ◌+◌, ◌-◌, ◌<◌, ◌≤�
 use Rattle.std.specs.List.{list_any, range_with_len}
 use Rattle.std.proofs.lemmas.Bool.{true≢false, and_parts, and_from, or_from, or_left, or_right, cases_lt, false_from_ne_true, true_from_ne_false, not-false, not_from_false}
 use Rattle.card_set.specs.declared.card.Card.{Card}
-use Rattle.card_set.specs.Known.{known_cards}
+use Rattle.card_set.specs.Known.{known_among}
 use Rattle.card_set.proofs.Finding.{any_agree, find_agree}
 use Rattle.card_set.proofs.Any.{none_passes}
 use Rattle.card_set.proofs.Tests.{second_fails}
@@ -64,8 +64,8 @@ module _ (opener : Opener) (b : BettingState) (up : UpRow) where
   -- no seat opens before itself
   never : (seat : ℕ) → before seat seat ≡ true → ⊥
   never seat is =
-      let parts = and_parts (can_act_seen b seat) (is_opener_before opener (b.street == 1) (known_cards (ups_of up seat)) (known_cards (ups_of up seat))) is in
-      true≢false (sym parts.1 ∙ opens_not opener (b.street == 1) (known_cards (ups_of up seat)))
+      let parts = and_parts (can_act_seen b seat) (is_opener_before opener (b.street == 1) (known_among (ups_of up seat)) (known_among (ups_of up seat))) is in
+      true≢false (sym parts.1 ∙ opens_not opener (b.street == 1) (known_among (ups_of up seat)))
 
   -- a seat that can act opens if it leads itself
   pub opens_alone : (seat lead : ℕ) → can_act_seen b seat ≡ true → lead ≡ seat → true ≡ (can_act_seen b seat && not (is_before_seen opener b up seat lead))
@@ -90,7 +90,7 @@ module _ (opener : Opener) (b : BettingState) (up : UpRow) where
     same_later : (can_act_seen b first && not (before first next)) ≡ false → (seat : ℕ) → opens_from opener b up first (suc count) seat ≡ opens_from opener b up (first + 1) count seat
     same_later fails seat =
         ap (λ some. can_act_seen b seat && not some) (sym (only_second (before seat first) (list_any (before seat) (range_with_len (first + 1) count)) (λ is.
-        let able : can_act_seen b first ≡ true = (and_parts (can_act_seen b first) (is_opener_before opener (b.street == 1) (known_cards (ups_of up first)) (known_cards (ups_of up seat))) is).0 in
+        let able : can_act_seen b first ≡ true = (and_parts (can_act_seen b first) (is_opener_before opener (b.street == 1) (known_among (ups_of up first)) (known_among (ups_of up seat))) is).0 in
         let beaten : before first next ≡ true = not-false (before first next) (second_fails (can_act_seen b first) (not (before first next)) able fails) in
         elim (cases_lt first next) [
           | inl above ↦ some_at (before seat) (first + 1) count next (omega (arith, above)) (omega (arith, high)) (new seat is)
@@ -144,7 +144,7 @@ module _ (opener : Opener) (b : BettingState) (up : UpRow) where
   pub other_leads : (lead other seat : ℕ) → can_act_seen b other ≡ true → is_as_early_seen opener b up other lead ≡ true → is_before_seen opener b up seat lead ≡ true → is_before_seen opener b up seat other ≡ true
   other_leads lead other seat able early before =
       let first = b.street == 1 in
-      let cards : ℕ → List Card = λ (k : ℕ). known_cards (ups_of up k) in
+      let cards : ℕ → List Card = λ (k : ℕ). known_among (ups_of up k) in
       and_from (can_act_seen b other) (is_opener_before opener first (cards other) (cards seat)) able
       (early_opens opener first (cards other) (cards lead) (cards seat) early (and_parts (can_act_seen b lead) (is_opener_before opener first (cards lead) (cards seat)) before).1)
 
@@ -152,6 +152,6 @@ module _ (opener : Opener) (b : BettingState) (up : UpRow) where
   pub lead_stays : (lead other seat : ℕ) → can_act_seen b lead ≡ true → is_as_early_seen opener b up other lead ≡ false → is_before_seen opener b up seat other ≡ true → is_before_seen opener b up seat lead ≡ true
   lead_stays lead other seat able late before =
       let first = b.street == 1 in
-      let cards : ℕ → List Card = λ (k : ℕ). known_cards (ups_of up k) in
+      let cards : ℕ → List Card = λ (k : ℕ). known_among (ups_of up k) in
       and_from (can_act_seen b lead) (is_opener_before opener first (cards lead) (cards seat)) able
       (late_opens opener first (cards other) (cards lead) (cards seat) late (and_parts (can_act_seen b other) (is_opener_before opener first (cards other) (cards seat)) before).1)

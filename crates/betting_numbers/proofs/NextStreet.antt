@@ -4,7 +4,7 @@ use Rattle.std.specs.List.{list_any, range_with_len}
 use Rattle.std.proofs.lemmas.Bool.{ne_eqb}
 use Rattle.chip_ledger.specs.SeatRow.{amount_of}
 use Rattle.play_event.specs.declared.setup.Setup.{Setup}
-use Rattle.play_event.specs.Past.{Move, moves_on, is_raise, is_bring_in}
+use Rattle.play_event.specs.Past.{Move, moves_on, is_raising, is_bringing_in}
 use Rattle.play_event.specs.Streets as streets
 use Rattle.play_event.specs.Chips.{street_chips, chips_added, brought, blind_posted}
 use Rattle.play_event.specs.CurrentBet as prices
@@ -29,21 +29,21 @@ pub least_raise : (setup : Setup) (moves : List Move) (street later : ℕ) → h
 least_raise setup [] street later early less = refl
 least_raise setup (move ∷ before) street later early less =
     let parts = newest_other move before street later early less in
-    ap (λ b. if b && is_raise move.act && nat_le (prices.full_raise setup before later) (rise setup move before) then max (rise setup move before) (prices.full_raise setup before later) else prices.full_raise setup before later) parts.0
+    ap (λ b. if b && is_raising move.act && nat_le (prices.full_raise setup before later) (rise setup move before) then max (rise setup move before) (prices.full_raise setup before later) else prices.full_raise setup before later) parts.0
     ∙ least_raise setup before street later parts.1 less
 
 pub none_doubled : (setup : Setup) (moves : List Move) (street later : ℕ) → has_no_move_later moves street ≡ true → street < later → doubled_raises setup moves later ≡ []
 none_doubled setup [] street later early less = refl
 none_doubled setup (move ∷ before) street later early less =
     let parts = newest_other move before street later early less in
-    ap (λ b. if b && is_raise move.act then ((2 * move.to - current_bet setup before later) ∷ doubled_raises setup before later) else doubled_raises setup before later) parts.0
+    ap (λ b. if b && is_raising move.act then ((2 * move.to - current_bet setup before later) ∷ doubled_raises setup before later) else doubled_raises setup before later) parts.0
     ∙ none_doubled setup before street later parts.1 less
 
 pub bet_at_start : (setup : Setup) (moves : List Move) (street later : ℕ) → has_no_move_later moves street ≡ true → street < later → prices.full_bet setup moves later ≡ prices.full_bet setup [] later
 bet_at_start setup [] street later early less = refl
 bet_at_start setup (move ∷ before) street later early less =
     let parts = newest_other move before street later early less in
-    ap (λ b. if b && (is_raise move.act || is_bring_in move.act) && nat_le (prices.full_bet setup before later + streets.unit setup later) move.to then move.to else prices.full_bet setup before later) parts.0
+    ap (λ b. if b && (is_raising move.act || is_bringing_in move.act) && nat_le (prices.full_bet setup before later + streets.unit setup later) move.to then move.to else prices.full_bet setup before later) parts.0
     ∙ bet_at_start setup before street later parts.1 less
 
 -- a street after the first begins without chips
@@ -80,7 +80,7 @@ module _ (b next : BettingState) (moves : List Move) (st : Standing b.setup b.st
     moved = λ seat in_hand. new.moved seat ∙ sym (ap (list_any (λ (move : Move). move.seat == seat)) empty);
     acted_since_raise = λ seat in_hand. new.acted_since_raise seat ∙ sym (none_since b.setup moves b.street (b.street + 1) seat early (omega arith));
     last = new.last ∙ sym (ap newest_seat empty);
-    raises = new.raises ∙ sym (ap (λ (ms : List Move). min (count_by (λ move. is_raise move.act) ms) most_raises) empty);
+    raises = new.raises ∙ sym (ap (λ (ms : List Move). min (count_by (λ move. is_raising move.act) ms) most_raises) empty);
     full_raise = new.full_raise ∙ sym (least_raise b.setup moves b.street (b.street + 1) early (omega arith));
     full_bet = new.full_bet ∙ sym (bet_at_start b.setup moves b.street (b.street + 1) early (omega arith) ∙ no_bet_by (nat_le (streets.unit b.setup (b.street + 1)) (starting_bet b.setup (b.street + 1))) (starting_bet b.setup (b.street + 1)) (starts_at_zero b.setup (b.street + 1) (omega (arith, from_one))));
     always_floor = new.always_floor ∙ sym (ap greatest (none_doubled b.setup moves b.street (b.street + 1) early (omega arith)));

@@ -12,7 +12,7 @@ use Rattle.play_event.specs.Past.{Past, Move, Act, Moved, moves_of, moves_on}
 use Rattle.play_event.specs.Seats.{is_live, can_act, live_count, all_seats, able_count}
 use Rattle.play_event.specs.Showing.{has_to_show, has_shown, has_mucked}
 use Rattle.std.specs.List.{list_any}
-use Rattle.play_event.specs.Streets.{is_stud}
+use Rattle.play_event.specs.Streets.{is_stud_game}
 use Rattle.play_event.specs.Due.{has_opened_betting, turn, is_bring_in_due, is_move_due}
 use Rattle.betting_numbers.specs.declared.betting_state.BettingState.{BettingState}
 use Rattle.betting_numbers.specs.Seen.{live_count_seen, is_move_due_seen}
@@ -145,8 +145,8 @@ module _ (b mid next : BettingState) (past : Past) (seat target unit : ℕ) (act
   -- no bring-in is due any more
   closed : is_bring_in_due b.setup (new_move ∷ moves_of past) b.street ≡ false
   closed =
-      ap (λ ms. is_stud b.setup.code && (b.street == 1) && nat_le 2 (able_count b.setup (new_move ∷ moves_of past)) && not (list_any (λ (move : Move). has_opened_betting move.act) ms)) (on_street b.street new_move (moves_of past) refl)
-      ∙ bring_in_closed_by (is_stud b.setup.code) (b.street == 1) (able_count b.setup (new_move ∷ moves_of past)) (able_count b.setup (moves_of past)) (has_opened_betting act) (list_any (λ (move : Move). has_opened_betting move.act) (moves_on b.street (moves_of past)))
+      ap (λ ms. is_stud_game b.setup.code && (b.street == 1) && nat_le 2 (able_count b.setup (new_move ∷ moves_of past)) && not (list_any (λ (move : Move). has_opened_betting move.act) ms)) (on_street b.street new_move (moves_of past) refl)
+      ∙ bring_in_closed_by (is_stud_game b.setup.code) (b.street == 1) (able_count b.setup (new_move ∷ moves_of past)) (able_count b.setup (moves_of past)) (has_opened_betting act) (list_any (λ (move : Move). has_opened_betting move.act) (moves_on b.street (moves_of past)))
       (counts_fewer (can_act b.setup (new_move ∷ moves_of past)) (can_act b.setup (moves_of past)) (able_still b.setup new_move (moves_of past)) (all_seats b.setup))
       bring_in_before
 

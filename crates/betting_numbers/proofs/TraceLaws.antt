@@ -4,7 +4,7 @@ use Rattle.play_event.specs.declared.event.Spelled.TheVariants as spelled
 use Rattle.play_event.specs.declared.setup.Reopen.TheVariants as reopen
 use Rattle.play_event.specs.declared.limit.Limit.{Limit}
 use Rattle.play_event.specs.declared.limit.Limit.TheVariants as limits
-use Rattle.play_event.specs.Past.{Past, Move, Moved, Act, is_raise}
+use Rattle.play_event.specs.Past.{Past, Move, Moved, Act, is_raising}
 use Rattle.play_event.specs.Streets.{limit_of}
 use Rattle.play_event.specs.Chips.{street_chips}
 use Rattle.play_event.specs.CurrentBet.{current_bet}
@@ -36,11 +36,11 @@ module _ (b : BettingState) (moves : List Move) (st : Standing b.setup b.street 
 
   pub traced_is : (act : Act) (target : ℕ) → traced_seen limit b m act target ≡ traced_move b.setup (move_of b moves m act target) moves
   traced_is act target =
-      ap (λ f. traced_by b.street m act f target (current_bet_seen b) (is_raise act && is_closed_seen limit b m target) (unit_seen limit b m)) (st.bets m in_hand)
-      ∙ ap (λ p. traced_by b.street m act (street_chips b.setup moves b.street m) target p (is_raise act && is_closed_seen limit b m target) (unit_seen limit b m)) (current_bet_is b moves st)
-      ∙ ap (λ c. traced_by b.street m act (street_chips b.setup moves b.street m) target (current_bet b.setup moves b.street) (is_raise act && c) (unit_seen limit b m)) (closed_is target)
-      ∙ ap (λ u. traced_by b.street m act (street_chips b.setup moves b.street m) target (current_bet b.setup moves b.street) (is_raise act && is_closed b.setup moves b.street m target) u) (unit_by limit)
-      ∙ ap (λ l. traced_by b.street m act (street_chips b.setup moves b.street m) target (current_bet b.setup moves b.street) (is_raise act && is_closed b.setup moves b.street m target) (unit_target_in l b.setup moves b.street m)) (sym limit_is)
+      ap (λ f. traced_by b.street m act f target (current_bet_seen b) (is_raising act && is_closed_seen limit b m target) (unit_seen limit b m)) (st.bets m in_hand)
+      ∙ ap (λ p. traced_by b.street m act (street_chips b.setup moves b.street m) target p (is_raising act && is_closed_seen limit b m target) (unit_seen limit b m)) (current_bet_is b moves st)
+      ∙ ap (λ c. traced_by b.street m act (street_chips b.setup moves b.street m) target (current_bet b.setup moves b.street) (is_raising act && c) (unit_seen limit b m)) (closed_is target)
+      ∙ ap (λ u. traced_by b.street m act (street_chips b.setup moves b.street m) target (current_bet b.setup moves b.street) (is_raising act && is_closed b.setup moves b.street m target) u) (unit_by limit)
+      ∙ ap (λ l. traced_by b.street m act (street_chips b.setup moves b.street m) target (current_bet b.setup moves b.street) (is_raising act && is_closed b.setup moves b.street m target) (unit_target_in l b.setup moves b.street m)) (sym limit_is)
 
 -- the move that ends a past, or this one
 newest_move : Move → Past → Move

@@ -9,13 +9,13 @@ use Rattle.play_event.specs.declared.reason.Due.{Due}
 use Rattle.play_event.specs.declared.reason.Due.TheVariants as dues
 use Rattle.play_event.specs.declared.limit.Opener.{Opener}
 use Rattle.play_event.specs.declared.limit.Opener.TheVariants as openers
-use Rattle.play_event.specs.Streets.{opener_of, is_stud, is_opened_by_up_cards}
+use Rattle.play_event.specs.Streets.{opener_of, is_stud_game, is_opened_by_up_cards}
 use Rattle.play_event.specs.Past.{Past, Move, moves_of, moves_on}
 use Rattle.play_event.specs.Seats.{can_act, all_seats, able_count}
 use Rattle.play_event.specs.SeatSlots.{ups_of}
 use Rattle.play_event.specs.Due.{is_move_due, is_bring_in_due, has_opened_betting}
 use Rattle.play_event.specs.Openers.{InTurn, NoSeat, TheSeat, Undecided, in_turn, is_opener_before, seat_after, able_seats, up_cards_opener, has_unknown_up_card, opener_by}
-use Rattle.card_set.specs.Known.{is_unknown, known_cards}
+use Rattle.card_set.specs.Known.{hides_card, known_among}
 use Rattle.play_event.specs.PlayerToAct.{player_to_act, player_to_act_after, first_in_turn}
 use Rattle.play_event.specs.Table.{up_cards}
 use Rattle.betting_numbers.specs.declared.betting_state.BettingState.{BettingState}
@@ -42,19 +42,19 @@ use Rattle.chip_ledger.specs.Seat.{IsSeatOf}
 module _ (b : BettingState) (past : Past) (stands : StandsFor b past) (up : UpRow) (holds : HoldsUps b.setup up past) where
   unknown_is : has_unknown_up_card_seen b up ≡ has_unknown_up_card b.setup (up_cards b.setup.code past) (moves_of past)
   unknown_is =
-      any_seats (has_unknown_seen b up) (λ seat. can_act b.setup (moves_of past) seat && list_any is_unknown (up_cards b.setup.code past seat)) b.setup.stacks.seats
-      (λ k low high. ap (λ a. a && list_any is_unknown (ups_of up k)) (able_is b (moves_of past) stands.standing k (record { first = low; last = high })) ∙ ap (λ slots. can_act b.setup (moves_of past) k && list_any is_unknown slots) (holds k low high))
-      ∙ sym (list_any-filter (λ seat. list_any is_unknown (up_cards b.setup.code past seat)) (can_act b.setup (moves_of past)) (all_seats b.setup))
+      any_seats (has_unknown_seen b up) (λ seat. can_act b.setup (moves_of past) seat && list_any hides_card (up_cards b.setup.code past seat)) b.setup.stacks.seats
+      (λ k low high. ap (λ a. a && list_any hides_card (ups_of up k)) (able_is b (moves_of past) stands.standing k (record { first = low; last = high })) ∙ ap (λ slots. can_act b.setup (moves_of past) k && list_any hides_card slots) (holds k low high))
+      ∙ sym (list_any-filter (λ seat. list_any hides_card (up_cards b.setup.code past seat)) (can_act b.setup (moves_of past)) (all_seats b.setup))
 
   -- the other opens before this one, by the rules
   abbrev opens_earlier : Opener → (seat other : ℕ) → Bool
-  opens_earlier opener seat other = is_opener_before opener (b.street == 1) (known_cards (up_cards b.setup.code past other)) (known_cards (up_cards b.setup.code past seat))
+  opens_earlier opener seat other = is_opener_before opener (b.street == 1) (known_among (up_cards b.setup.code past other)) (known_among (up_cards b.setup.code past seat))
 
   before_is : (opener : Opener) (k other : ℕ) → IsSeatOf b.setup.stacks.seats k → IsSeatOf b.setup.stacks.seats other → is_before_seen opener b up k other ≡ (can_act b.setup (moves_of past) other && opens_earlier opener k other)
   before_is opener k other in_k in_other =
-      ap (λ a. a && is_opener_before opener (b.street == 1) (known_cards (ups_of up other)) (known_cards (ups_of up k))) (able_is b (moves_of past) stands.standing other in_other)
-      ∙ ap (λ slots. can_act b.setup (moves_of past) other && is_opener_before opener (b.street == 1) (known_cards slots) (known_cards (ups_of up k))) (holds other in_other.first in_other.last)
-      ∙ ap (λ slots. can_act b.setup (moves_of past) other && is_opener_before opener (b.street == 1) (known_cards (up_cards b.setup.code past other)) (known_cards slots)) (holds k in_k.first in_k.last)
+      ap (λ a. a && is_opener_before opener (b.street == 1) (known_among (ups_of up other)) (known_among (ups_of up k))) (able_is b (moves_of past) stands.standing other in_other)
+      ∙ ap (λ slots. can_act b.setup (moves_of past) other && is_opener_before opener (b.street == 1) (known_among slots) (known_among (ups_of up k))) (holds other in_other.first in_other.last)
+      ∙ ap (λ slots. can_act b.setup (moves_of past) other && is_opener_before opener (b.street == 1) (known_among (up_cards b.setup.code past other)) (known_among slots)) (holds k in_k.first in_k.last)
 
   opens_is : (opener : Opener) (k : ℕ) → IsSeatOf b.setup.stacks.seats k → is_opener_seen opener b up k ≡ (can_act b.setup (moves_of past) k && not (list_any (opens_earlier opener k) (able_seats b.setup (moves_of past))))
   opens_is opener k in_k =
@@ -78,8 +78,8 @@ module _ (b : BettingState) (past : Past) (stands : StandsFor b past) (up : UpRo
   one_opens_by opener [] some = absurd (true≢false (sym some))
   one_opens_by opener (m ∷ ys) some =
       first_exists (λ y x. opens_earlier opener x y)
-      (λ x. opens_not opener (b.street == 1) (known_cards (up_cards b.setup.code past x)))
-      (λ x y z xy yz. opens_trans opener (b.street == 1) (known_cards (up_cards b.setup.code past x)) (known_cards (up_cards b.setup.code past y)) (known_cards (up_cards b.setup.code past z)) xy yz)
+      (λ x. opens_not opener (b.street == 1) (known_among (up_cards b.setup.code past x)))
+      (λ x y z xy yz. opens_trans opener (b.street == 1) (known_among (up_cards b.setup.code past x)) (known_among (up_cards b.setup.code past y)) (known_among (up_cards b.setup.code past z)) xy yz)
       m ys
 
   and_true : (a : Bool) → (a && true) ≡ a
@@ -107,8 +107,8 @@ module _ (b : BettingState) (past : Past) (stands : StandsFor b past) where
   bring_in_moves is last =
       let st = stands.standing in
       let due : is_bring_in_due b.setup (moves_of past) b.street ≡ true = bring_in_by b.street (is_bring_in_due b.setup (moves_of past) b.street) (is_move_due b.setup (moves_of past) b.street) (due_after_cards b.setup past b.street dues.BringIn (stands.turn_is ∙ ap (λ (d : Due). (b.street, d)) is) refl) in
-      let parts = and_parts (is_stud b.setup.code && (b.street == 1) && nat_le 2 (able_count b.setup (moves_of past))) (not (list_any (λ (move : Move). has_opened_betting move.act) (moves_on b.street (moves_of past)))) due in
-      let two : nat_le 2 (able_count_seen b) ≡ true = ap (nat_le 2) (able_count_is b (moves_of past) st) ∙ (and_parts (is_stud b.setup.code && (b.street == 1)) (nat_le 2 (able_count b.setup (moves_of past))) parts.0).1 in
+      let parts = and_parts (is_stud_game b.setup.code && (b.street == 1) && nat_le 2 (able_count b.setup (moves_of past))) (not (list_any (λ (move : Move). has_opened_betting move.act) (moves_on b.street (moves_of past)))) due in
+      let two : nat_le 2 (able_count_seen b) ≡ true = ap (nat_le 2) (able_count_is b (moves_of past) st) ∙ (and_parts (is_stud_game b.setup.code && (b.street == 1)) (nat_le 2 (able_count b.setup (moves_of past))) parts.0).1 in
       let empty : moves_on b.street (moves_of past) ≡ [] = no_moves (moves_on b.street (moves_of past)) (sym st.last ∙ ap (λ (o : Option Seat). seat_said o) last) in
       let enough : 2 ≤ able_count_seen b = leb-true 2 (able_count_seen b) two in
       sym (any_seats (can_act_seen b) (has_to_move_seen b) b.setup.stacks.seats (λ k low high. sym (

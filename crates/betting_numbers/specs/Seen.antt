@@ -9,7 +9,7 @@ use Rattle.chip_ledger.specs.declared.numbers.Seat.{Seat}
 use Rattle.play_event.specs.Due.{is_after_betting}
 use Rattle.chip_ledger.specs.Greatest.{greatest}
 use Rattle.play_event.specs.Seats.{all_seats}
-use Rattle.play_event.specs.Streets.{is_stud}
+use Rattle.play_event.specs.Streets.{is_stud_game}
 use Rattle.play_event.specs.Openers.{InTurn, TheSeat, seat_after}
 use Rattle.play_event.specs.PlayerToAct.{first_in_turn}
 use Rattle.betting_numbers.specs.declared.betting_state.BettingState.{BettingState}
@@ -57,7 +57,7 @@ is_move_due_seen betting = list_any (has_to_move_seen betting) (all_seats bettin
 -- a bring-in is due
 abbrev pub is_bring_in_due_seen : BettingState → Bool
 is_bring_in_due_seen betting =
-    is_stud betting.setup.code && (betting.street == 1) && nat_le 2 (able_count_seen betting)
+    is_stud_game betting.setup.code && (betting.street == 1) && nat_le 2 (able_count_seen betting)
     && not betting.bet_or_bring_in_made
 
 -- another seat can act

@@ -6,7 +6,7 @@ use Rattle.play_event.specs.declared.event.Spelled.TheVariants as spelled
 use Rattle.play_event.specs.declared.setup.Reopen.TheVariants as reopen
 use Rattle.play_event.specs.declared.limit.Limit.{Limit}
 use Rattle.play_event.specs.declared.limit.Limit.TheVariants as limits
-use Rattle.play_event.specs.Past.{Act, is_raise}
+use Rattle.play_event.specs.Past.{Act, is_raising}
 use Rattle.play_event.specs.Streets.{unit}
 use Rattle.play_event.specs.Trace.{TracedMove}
 use Rattle.betting_numbers.specs.declared.betting_state.BettingState.{BettingState}
@@ -38,6 +38,6 @@ traced_seen limit betting seat act target =
       from = amount_of betting.bets seat;
       to = target;
       price = current_bet_seen betting;
-      closed = is_raise act && is_closed_seen limit betting seat target;
+      closed = is_raising act && is_closed_seen limit betting seat target;
       unit_to = unit_seen limit betting seat;
     }

@@ -5,7 +5,7 @@ use Rattle.play_event.specs.declared.up_cards.UpRow.{UpRow}
 use Rattle.play_event.specs.declared.setup.Setup.{Setup}
 use Rattle.play_event.specs.declared.limit.Opener.{Opener}
 use Rattle.play_event.specs.Openers.{is_opener_before}
-use Rattle.card_set.specs.Known.{is_unknown, known_cards}
+use Rattle.card_set.specs.Known.{hides_card, known_among}
 use Rattle.play_event.specs.Past.{Past}
 use Rattle.betting_numbers.specs.Earliest.{opens_no_later}
 use Rattle.play_event.specs.SeatSlots.{ups_of}
@@ -28,7 +28,7 @@ pub record HoldsOpeningUps (betting : BettingState) (up : UpRow) (past : Past) :
 
 -- the seat can act and has an unknown up-card
 abbrev pub has_unknown_seen : BettingState → UpRow → ℕ → Bool
-has_unknown_seen betting up seat = can_act_seen betting seat && list_any is_unknown (ups_of up seat)
+has_unknown_seen betting up seat = can_act_seen betting seat && list_any hides_card (ups_of up seat)
 
 -- some seat that can act has an unknown up-card
 abbrev pub has_unknown_up_card_seen : BettingState → UpRow → Bool
@@ -39,8 +39,8 @@ has_unknown_up_card_seen betting up =
 abbrev pub is_before_seen : Opener → BettingState → UpRow → (seat other : ℕ) → Bool
 is_before_seen opener betting up seat other =
     can_act_seen betting other
-    && is_opener_before opener (betting.street == 1) (known_cards (ups_of up other))
-    (known_cards (ups_of up seat))
+    && is_opener_before opener (betting.street == 1) (known_among (ups_of up other))
+    (known_among (ups_of up seat))
 
 -- a seat opens before each seat before which the leader opens
 abbrev pub LeadsAsWell : Opener → BettingState → UpRow → (lead other : ℕ) → Type 0
@@ -51,8 +51,8 @@ LeadsAsWell opener betting up lead other =
 -- the seat's up-cards open before all before which the other's open
 abbrev pub is_as_early_seen : Opener → BettingState → UpRow → (seat other : ℕ) → Bool
 is_as_early_seen opener betting up seat other =
-    opens_no_later opener (betting.street == 1) (known_cards (ups_of up seat))
-    (known_cards (ups_of up other))
+    opens_no_later opener (betting.street == 1) (known_among (ups_of up seat))
+    (known_among (ups_of up other))
 
 -- the seat can act, and no seat that can act opens before it
 abbrev pub is_opener_seen : Opener → BettingState → UpRow → ℕ → Bool

@@ -75,7 +75,7 @@ fn lower(a: &[u8], b: &[u8]) -> bool
 
 /// The up-cards of one seat open before all up-cards that those of another open before. A seat that
 /// is as early as every other seat opens before each seat that some seat opens before.
-pub fn opens_no_later(opener: Opener, first: bool, a: &CardRow, b: &CardRow) -> bool
+pub fn opens_as_early(opener: Opener, first: bool, a: &CardRow, b: &CardRow) -> bool
     ensures { result ≡ earliest.opens_no_later opener first (cards_of a.now) (cards_of b.now) }
 {
     match opener {

@@ -20,7 +20,7 @@ mod up_opening;
 mod viewing;
 
 pub use betting_state::BettingState;
-pub use comparing::{is_opener_before, opens_no_later};
+pub use comparing::{is_opener_before, opens_as_early};
 pub use legal_moves::{LegalMove, Turn};
 pub use starting::start;
 pub use targeting::Targets;

@@ -1,7 +1,7 @@
 //! What the running numbers say: who is live and can act, the current bet, and what is owed.
 ghost use Rattle.std.specs.Prelude.{◌≡◌, ◌≤◌, ◌<◌};
 ghost use Rattle.chip_ledger.specs.declared.seat_row.TheConstants.{MOST_AMOUNT};
-ghost use Rattle.play_event.specs.Streets.{is_stud};
+ghost use Rattle.play_event.specs.Streets.{is_stud_game};
 ghost use Rattle.betting_numbers.specs.Seen.{able_count_seen, can_act_seen, all_in_seen, is_bring_in_due_seen, left_seen, live_count_seen, has_opponent_seen, to_call_seen, current_bet_seen, has_to_move_seen};
 
 use crate::betting_state::BettingState;
@@ -80,7 +80,7 @@ impl BettingState {
 
     /// Whether a bring-in is due; `stud` says whether the game is stud.
     pub fn is_bring_in_due(&self, stud: bool) -> bool
-        requires { stud ≡ is_stud self.now.setup.code }
+        requires { stud ≡ is_stud_game self.now.setup.code }
         ensures { result ≡ is_bring_in_due_seen self.now }
     {
         stud && self.street == 1 && 2 <= self.able_count() && !self.bet_or_bring_in_made

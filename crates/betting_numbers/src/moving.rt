@@ -2,7 +2,7 @@
 ghost use Rattle.std.specs.Prelude.{◌<◌, ◌≡◌, ◌≤◌, ◌+◌, ◌-◌, ◌*◌, ◌&&◌, ◌||◌, ℕ, false, None, nat_le, nat_lt, not, min, max, if◌then◌else◌};
 ghost use Rattle.chip_ledger.specs.LiveRow.{flag_of};
 ghost use Rattle.chip_ledger.specs.declared.seat_row.TheConstants.{MOST_AMOUNT};
-ghost use Rattle.play_event.specs.Past.{is_fold};
+ghost use Rattle.play_event.specs.Past.{is_folding};
 ghost use Rattle.play_event.specs.Played.{act_said};
 ghost use Rattle.betting_numbers.specs.Moving.{IsMoved, IsNextStreet, most_raises};
 ghost use Rattle.betting_numbers.specs.Turn.{with_due, with_turn};
@@ -104,7 +104,7 @@ fn keep(row: &mut LiveRow, kept: bool)
 
 // A live seat stays live unless it folds.
 fn live_after(live: bool, act: Act) -> bool
-    ensures { result ≡ (live && not (is_fold (act_said act))) }
+    ensures { result ≡ (live && not (is_folding (act_said act))) }
 {
     live && !act.is_fold()
 }

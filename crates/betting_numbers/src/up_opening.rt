@@ -6,7 +6,7 @@ ghost use Rattle.betting_numbers.specs.UpSeen.{LeadsAsWell, is_before_seen, has_
 ghost use Rattle.betting_numbers.specs.Seen.{first_behind_seen, can_act_seen};
 
 use crate::betting_state::BettingState;
-use crate::comparing::{is_opener_before, opens_no_later};
+use crate::comparing::{is_opener_before, opens_as_early};
 use chip_ledger::Seat;
 use play_event::{Opener, UpRow};
 
@@ -110,7 +110,7 @@ impl Ups<'_> {
         if !self.numbers.can_act(other) {
             return lead;
         }
-        let early = opens_no_later(
+        let early = opens_as_early(
             self.opener,
             self.numbers.street == 1,
             &self.up.get(other).known_cards(),

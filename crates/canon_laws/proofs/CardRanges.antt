@@ -3,7 +3,7 @@ use Rattle.std.proofs.Common.{◌≡◌, ℕ, ◌+◌, ◌-◌, ◌≤◌, true,
 use Rattle.std.specs.List.{list_any}
 use Rattle.std.proofs.lemmas.Bool.{and_parts, and_from, and_right, eqb-true, leb-true, lt-leb, lt-ltb, le-ltb, not_from_false}
 use Rattle.std.proofs.lemmas.List.{length-map}
-use Rattle.card_set.specs.Known.{known_cards}
+use Rattle.card_set.specs.Known.{known_among}
 use Rattle.play_event.specs.declared.setup.Rules.{Rules}
 use Rattle.play_event.specs.declared.setup.Setup.{Setup}
 use Rattle.play_event.specs.Games.{game_of, street_count}
@@ -68,7 +68,7 @@ module _ (setup : Setup) (rules : Rules) (events : List Said) (legal : AreLegal 
       )
 
   -- and they are known
-  pub board_known : (street : ℕ) → length (known_cards (dealt_slots core.places None street)) ≡ length (dealt_slots core.places None street)
+  pub board_known : (street : ℕ) → length (known_among (dealt_slots core.places None street)) ≡ length (dealt_slots core.places None street)
   board_known street = all_known_length (dealt_slots core.places None street) (streets_played.board_known core.places street (tidy_cards setup rules events legal).board_known)
 
   -- what a draw takes was held when its street began
@@ -102,7 +102,7 @@ module _ (setup : Setup) (rules : Rules) (events : List Said) (legal : AreLegal 
 
   -- a shown seat of a contested hand shows a whole hand
   pub shown_whole : (seat : ℕ) → IsSeatOf setup.stacks.seats seat → nat_le 2 (live_count setup (moves_of past)) ≡ true → is_unfinished (turn setup past).1 ≡ false → list_any (λ other. other == seat) core.shown ≡ true
-      → length (known_cards (held_slots core.places seat)) ≡ (game_of setup.code).hole
+      → length (known_among (held_slots core.places seat)) ≡ (game_of setup.code).hole
   shown_whole seat in_hand contested finished shown =
       let is : is_shown setup past seat ≡ true = sym (is_in (is_shown setup past) 1 setup.stacks.seats seat in_hand.first (omega (arith, in_hand.last))) ∙ shown in
       let live : is_live (moves_of past) seat ≡ true = (shown_parts setup past seat is).live in

@@ -10,7 +10,7 @@ use Rattle.card_set.specs.declared.card.Slot.{Slot}
 use Rattle.card_set.specs.declared.card.Slot.TheVariants as slots
 use Rattle.play_event.specs.declared.code.Code.{Code}
 use Rattle.play_event.specs.Said as said
-use Rattle.card_set.specs.Known.{is_unknown, known_cards}
+use Rattle.card_set.specs.Known.{hides_card, known_among}
 use Rattle.play_event.specs.Places.{Place, is_held_by}
 use Rattle.play_event.specs.NameMatching.{unmatched_names, is_named, after_matching, after_show, held_count, can_be_named, is_show_of_all}
 use Rattle.play_event.specs.Taken.{newly_known, has_misplaced_card, is_misplaced}
@@ -25,14 +25,14 @@ use Rattle.play_event.proofs.ClashLaws.{IsOneOf}
 
 -- the cards that a seat holds are known
 abbrev pub HoldsKnown : ℕ → List Place → Type 0
-HoldsKnown seat placed = (place : Place) → IsAmong placed place → is_held_by seat place ≡ true → is_unknown place.slot ≡ false
+HoldsKnown seat placed = (place : Place) → IsAmong placed place → is_held_by seat place ≡ true → hides_card place.slot ≡ false
 
 -- the cards that it shows
 abbrev pub held_cards : ℕ → List Place → List Card
 held_cards seat placed = names_taken (is_held_by seat) placed
 
 -- if all slots are known there are as many cards
-pub known_length : (list : List Slot) → ((slot : Slot) → IsOneOf list slot → is_unknown slot ≡ false) → length (known_cards list) ≡ length list
+pub known_length : (list : List Slot) → ((slot : Slot) → IsOneOf list slot → hides_card slot ≡ false) → length (known_among list) ≡ length list
 known_length [] known = refl
 known_length (slots.Known card ∷ rest) known = ap suc (known_length rest (λ slot among. known slot (inr among)))
 known_length (slots.Unknown ∷ rest) known = false_true (sym (known slots.Unknown (inl refl)))
@@ -48,7 +48,7 @@ held_length seat placed known =
     known_length (slots_taken (is_held_by seat) placed) (λ slot among.
     let it = one_of_map (filter (is_held_by seat) placed) slot among in
     let place = passed (is_held_by seat) placed it.0 it.1.0 in
-    ap is_unknown (sym it.1.1) ∙ known it.0 place.among place.passes)
+    ap hides_card (sym it.1.1) ∙ known it.0 place.among place.passes)
     ∙ length-map (filter (is_held_by seat) placed) (λ (p : Place). p.slot)
     ∙ length-filter (is_held_by seat) placed
 
@@ -64,13 +64,13 @@ covers_held seat place = and_true (is_held_by seat place)
     and_true false = refl
 
 same_cards : (seat : ℕ) (placed : List Place) → names_taken (covers_all seat) placed ≡ held_cards seat placed
-same_cards seat placed = ap (λ l. known_cards (map (λ (p : Place). p.slot) l)) (same_filter (covers_all seat) (is_held_by seat) placed (λ place among. covers_held seat place))
+same_cards seat placed = ap (λ l. known_among (map (λ (p : Place). p.slot) l)) (same_filter (covers_all seat) (is_held_by seat) placed (λ place among. covers_held seat place))
 
 no_blank : (seat : ℕ) (placed : List Place) → HoldsKnown seat placed → blanks_taken (covers_all seat) placed ≡ 0
 no_blank seat [] known = refl
 no_blank seat (place ∷ rest) known =
     ap (λ b. if b then suc (blanks_taken (covers_all seat) rest) else blanks_taken (covers_all seat) rest)
-    (false_from_ne_true (covers_all seat place && is_unknown place.slot) (λ both. let parts = and_parts (covers_all seat place) (is_unknown place.slot) both in both_ways (is_unknown place.slot) (known place (inl refl) (sym (covers_held seat place) ∙ parts.0)) parts.1))
+    (false_from_ne_true (covers_all seat place && hides_card place.slot) (λ both. let parts = and_parts (covers_all seat place) (hides_card place.slot) both in both_ways (hides_card place.slot) (known place (inl refl) (sym (covers_held seat place) ∙ parts.0)) parts.1))
     ∙ no_blank seat rest (λ other among. known other (inr among))
 
 blanks_never : (covers : Place → Bool) (placed : List Place) → BlanksFirst covers covers placed
@@ -123,7 +123,7 @@ clean_show code seat placed known =
       free = ap (has_misplaced_card code placed) after ∙ ap (list_any (is_misplaced code placed)) no_new;
       held = ap (λ b. is_show_of_others (filter (C b) placed) names) all
           ∙ or_from (has_no_place (filter covers placed) names 0) (list_any (λ place. is_left_out names place.slot) (filter covers placed))
-          (le-ltb (count_by (λ (place : Place). is_unknown place.slot) (filter covers placed)) (length (unmatched_names (filter covers placed) names) + 0) (omega (arith, ap (λ (l : List Card). length l) none_left)))
+          (le-ltb (count_by (λ (place : Place). hides_card place.slot) (filter covers placed)) (length (unmatched_names (filter covers placed) names) + 0) (omega (arith, ap (λ (l : List Card). length l) none_left)))
           (none_left_out names (filter covers placed) (λ place card among here.
           let it = passed covers placed place among in
           taken_is_named (is_held_by seat) card placed place it.among here (sym (covers_held seat place) ∙ it.passes)));

@@ -4,7 +4,7 @@ use Rattle.std.specs.Option.{option_map_or}
 use Rattle.std.proofs.lemmas.Bool.{or_parts, or_from, or_left, or_right, and_parts, and_from, eqb-true, eq-eqb, both_ways, false_from_ne_true}
 use Rattle.play_event.specs.declared.code.Code.{Code}
 use Rattle.play_event.specs.Past.{Move}
-use Rattle.card_set.specs.Known.{is_unknown}
+use Rattle.card_set.specs.Known.{hides_card}
 use Rattle.play_event.specs.Places.{Place, is_same_owner, is_held_by}
 use Rattle.play_event.specs.NameMatching.{after_discard, discarded_now}
 use Rattle.play_event.specs.Laws.{IsAmong}
@@ -91,13 +91,13 @@ same_names moves out taken street seat (mine ∷ mines) (final ∷ finals) mirro
     names_step mine final (filter taken mines) (filter (is_out_of street seat) finals) (taken mine) (is_out_of street seat final) all.0 mirrored.0.slot (same_names moves out taken street seat mines finals mirrored.1 all.1)
 
 -- blanks come first
-no_blanks : (moves : List Move) (out taken : Place → Bool) (street seat : ℕ) (first : Place) (mines finals : List Place) → AreMirrored moves out mines finals → AllTaken taken street seat mines finals → ((second : Place) → IsAmong finals second → is_out_of street seat second ≡ true → is_unknown second.slot ≡ true → ⊥) → blanks_taken taken mines ≡ 0
+no_blanks : (moves : List Move) (out taken : Place → Bool) (street seat : ℕ) (first : Place) (mines finals : List Place) → AreMirrored moves out mines finals → AllTaken taken street seat mines finals → ((second : Place) → IsAmong finals second → is_out_of street seat second ≡ true → hides_card second.slot ≡ true → ⊥) → blanks_taken taken mines ≡ 0
 no_blanks moves out taken street seat first [] [] mirrored all never = refl
 no_blanks moves out taken street seat first [] (final ∷ finals) mirrored all never = absurd mirrored
 no_blanks moves out taken street seat first (mine ∷ mines) [] mirrored all never = absurd mirrored
 no_blanks moves out taken street seat first (mine ∷ mines) (final ∷ finals) mirrored all never =
-    let none : (taken mine && is_unknown mine.slot) ≡ false = false_from_ne_true (taken mine && is_unknown mine.slot) (λ both.
-    let parts = and_parts (taken mine) (is_unknown mine.slot) both in never final (inl refl) (sym all.0 ∙ parts.0) (sym (ap is_unknown mirrored.0.slot) ∙ parts.1)) in
+    let none : (taken mine && hides_card mine.slot) ≡ false = false_from_ne_true (taken mine && hides_card mine.slot) (λ both.
+    let parts = and_parts (taken mine) (hides_card mine.slot) both in never final (inl refl) (sym all.0 ∙ parts.0) (sym (ap hides_card mirrored.0.slot) ∙ parts.1)) in
     ap (λ b. if b then suc (blanks_taken taken mines) else blanks_taken taken mines) none
     ∙ no_blanks moves out taken street seat first mines finals mirrored.1 all.1 (λ second among. never second (inr among))
 
@@ -111,7 +111,7 @@ blanks_first moves out taken street seat (mine ∷ mines) (final ∷ finals) mir
       let on : second.discarded ≡ street = eqb-true second.discarded street parts.1 in
       let mine_is : final.owner ≡ Some seat = sym mirrored.0.owner ∙ (held_parts seat mine held).1 in
       let not_out : out final ≡ false = (or_parts (out final) (has_owner_folded moves final.owner) (sym mirrored.0.gone_after ∙ ap is_some (held_parts seat mine held).0)).0 in
-      let same : final.discarded ≡ second.discarded = before.0 second among (mine_is ∙ sym (is_same_owner-true second.owner (Some seat) parts.0)) (sym (ap is_unknown mirrored.0.slot) ∙ unknown) unknown_second
+      let same : final.discarded ≡ second.discarded = before.0 second among (mine_is ∙ sym (is_same_owner-true second.owner (Some seat) parts.0)) (sym (ap hides_card mirrored.0.slot) ∙ unknown) unknown_second
       (omega (arith, on, is.some)) (omega (arith, on, is.early final (inl refl))) (elim (is.before final (inl refl) mine_is not_out) [ inl none ↦ inl none | inr late ↦ inr (omega (arith, late, on)) ]) in
       both_ways (taken mine) not_taken (all.0 ∙ and_from (is_same_owner final.owner (Some seat)) (final.discarded == street) (ap (λ o. is_same_owner o (Some seat)) mine_is ∙ eq-eqb seat seat refl) (eq-eqb final.discarded street (same ∙ on)))),
   blanks_first moves out taken street seat mines finals mirrored.1 all.1 (drawing_rest moves out street seat final finals is) before.1,

@@ -9,9 +9,9 @@ use Rattle.play_event.specs.declared.setup.Setup.{Setup}
 use Rattle.play_event.specs.declared.setup.Rules.{Rules}
 use Rattle.play_event.specs.Streets.{has_draw}
 use Rattle.play_event.specs.Said.{Said}
-use Rattle.play_event.specs.Past.{Past, Resolved, is_fold}
+use Rattle.play_event.specs.Past.{Past, Resolved, is_folding}
 use Rattle.play_event.specs.Due.{turn}
-use Rattle.card_set.specs.Known.{known_cards}
+use Rattle.card_set.specs.Known.{known_among}
 use Rattle.play_event.specs.Places.{Place, is_in_group, is_past_deck, places_dealt, after_deal, is_held_by, folded_place, after_fold, gone_now}
 use Rattle.play_event.specs.NameMatching.{after_discard, after_show, unmatched_names, blanks_in, can_be_named, is_show_of_all}
 use Rattle.play_event.specs.Table.{places_of}
@@ -75,8 +75,8 @@ seats_step setup before at _ (shows who cards may free) out =
     marked_seats is_nothing (length placed) at placed (after_show setup.code who cards placed) (λ old is none. both_ways false refl is) out (show_marks covers (length placed) at cards (unmatched_names (filter covers placed) cards) 0 placed)
 seats_step setup before at _ (discards who cards no_deal draw next few free held) out =
     let placed = places_of setup.code before in
-    marked_seats (is_held_by who) (length placed) at placed (after_discard at who cards placed) (no_board who) out (discard_marks (is_held_by who) (length placed) at (known_cards cards) (unmatched_names (filter (is_held_by who) placed) (known_cards cards)) (blanks_in cards) placed)
-seats_step setup before at _ (moves played no_deal no_draw on) out = by_fold (is_fold played.act)
+    marked_seats (is_held_by who) (length placed) at placed (after_discard at who cards placed) (no_board who) out (discard_marks (is_held_by who) (length placed) at (known_among cards) (unmatched_names (filter (is_held_by who) placed) (known_among cards)) (blanks_in cards) placed)
+seats_step setup before at _ (moves played no_deal no_draw on) out = by_fold (is_folding played.act)
   where
     by_fold : (b : Bool) → OutSeats (if b then after_fold played.seat (places_of setup.code before) else places_of setup.code before)
     by_fold true = fold_seats played.seat (length (places_of setup.code before)) (places_of setup.code before) out

@@ -15,7 +15,7 @@ use Rattle.play_event.specs.Past.{Past, moves_of}
 use Rattle.play_event.specs.Seats.{is_live, all_seats}
 use Rattle.play_event.specs.Dealing.{is_draw_due, next_to_draw, has_drawn, replacements_owed}
 use Rattle.play_event.specs.Due.{turn, due_on, is_bring_in_due, is_move_due}
-use Rattle.card_set.specs.Known.{known_cards}
+use Rattle.card_set.specs.Known.{known_among}
 use Rattle.play_event.specs.Places.{Place, is_held_by, is_same_owner}
 use Rattle.play_event.specs.NameMatching.{after_discard, held_count, blanks_in}
 use Rattle.play_event.specs.Table.{places_of}
@@ -85,7 +85,7 @@ one_discard setup rules before street first finals led come is drawn mirrored le
     let names = again.names in
     let L : List Slot → Type 0 = λ l. nat_lt (held_count placed first) (length l) ≡ false in
     let F : List Slot → Type 0 = λ l. has_misplaced_card setup.code placed (after_discard street first l placed) ≡ false in
-    let H : List Slot → Type 0 = λ l. has_no_place (filter (is_held_by first) placed) (known_cards l) (blanks_in l) ≡ false in
+    let H : List Slot → Type 0 = λ l. has_no_place (filter (is_held_by first) placed) (known_among l) (blanks_in l) ≡ false in
     record {
       legal = discard_legal setup rules before street first (out_slots finals street first) turned (ap (λ n. option_map_or (λ next. next == first) n false) next ∙ eq-eqb first first refl)
           (subst L names again.clean.count) (subst F names again.clean.free) (subst H names again.clean.held);

@@ -3,7 +3,7 @@ use Rattle.std.proofs.Common.{◌≡◌, ℕ, zero, suc, ◌+◌, ◌≤◌, ◌
 use Rattle.std.specs.List.{AllByRecursion, list_any, range_with_len}
 use Rattle.std.proofs.lemmas.Bool.{and_parts}
 use Rattle.card_set.specs.declared.card.Slot.{Slot}
-use Rattle.card_set.specs.Known.{known_cards}
+use Rattle.card_set.specs.Known.{known_among}
 use Rattle.play_event.specs.declared.setup.Rules.{Rules}
 use Rattle.play_event.specs.declared.setup.Setup.{Setup}
 use Rattle.play_event.specs.Due.{is_unfinished, turn}
@@ -66,7 +66,7 @@ deal_in_range : (seats seat : ℕ) (slots : List Slot) → IsSeatOf seats seat �
 deal_in_range seats seat [] in_hand few = tt
 deal_in_range seats seat (slot ∷ rest) in_hand few = ((in_hand, omega arith, few), tt)
 
-board_in_range : (seats : ℕ) (slots : List Slot) → length slots ≤ 5 → length (known_cards slots) ≡ length slots → AllByRecursion (IsInRange seats) (board_said slots)
+board_in_range : (seats : ℕ) (slots : List Slot) → length slots ≤ 5 → length (known_among slots) ≡ length slots → AllByRecursion (IsInRange seats) (board_said slots)
 board_in_range seats [] few known = tt
 board_in_range seats (slot ∷ rest) few known = ((omega (arith, known), omega (arith, known, few)), tt)
 
@@ -124,7 +124,7 @@ module _ (setup : Setup) (rules : Rules) (events : List Said) (valid : IsValid s
     showing : (seat : ℕ) → IsSeatOf seats seat → nat_le 2 (live_count setup moves) ≡ true → IsInRange seats (showing_said core.places core.shown seat)
     showing seat in_hand contested = by_shown (list_any (λ other. other == seat) core.shown) refl
       where
-        by_shown : (shown : Bool) → list_any (λ other. other == seat) core.shown ≡ shown → IsInRange seats (if shown then Show seat (known_cards (held_slots core.places seat)) else Muck seat)
+        by_shown : (shown : Bool) → list_any (λ other. other == seat) core.shown ≡ shown → IsInRange seats (if shown then Show seat (known_among (held_slots core.places seat)) else Muck seat)
         by_shown true is =
             let whole = shown_whole setup rules events legal seat in_hand contested finished is in
             (in_hand, omega (arith, whole, hand_some setup.code), omega (arith, whole, hand_seven setup.code))

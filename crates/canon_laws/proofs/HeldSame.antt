@@ -9,7 +9,7 @@ use Rattle.play_event.specs.Games.{street_count}
 use Rattle.play_event.specs.Said.{Said}
 use Rattle.play_event.specs.Past.{Past, Move, moves_of}
 use Rattle.play_event.specs.Seats.{is_live}
-use Rattle.card_set.specs.Known.{is_unknown}
+use Rattle.card_set.specs.Known.{hides_card}
 use Rattle.play_event.specs.Places.{Place, is_same_owner, is_held_by}
 use Rattle.play_event.specs.Table.{places_of}
 use Rattle.play_event.specs.Scripts.{past_of}
@@ -101,21 +101,21 @@ held_script setup rules events seat legal least most live =
     held_by seat (moves_of script) place.owner place.gone_after place.discarded (nat_lt 0 place.discarded) (is_same_owner place.owner (Some seat)) live refl refl (law.places.gone_is place among))))
 
 -- an unknown card among them
-any_step : (seat : ℕ) (place : Place) (rest : List Place) (a : Bool) → is_held_by seat place ≡ a → list_any (λ (p : Place). is_held_by seat p && is_unknown p.slot) rest ≡ list_any is_unknown (slots_held seat rest) → ((a && is_unknown place.slot) || list_any (λ (p : Place). is_held_by seat p && is_unknown p.slot) rest) ≡ list_any is_unknown (map (λ (p : Place). p.slot) (if a then (place ∷ filter (is_held_by seat) rest) else filter (is_held_by seat) rest))
-any_step seat place rest true is later = ap (λ b. is_unknown place.slot || b) later
+any_step : (seat : ℕ) (place : Place) (rest : List Place) (a : Bool) → is_held_by seat place ≡ a → list_any (λ (p : Place). is_held_by seat p && hides_card p.slot) rest ≡ list_any hides_card (slots_held seat rest) → ((a && hides_card place.slot) || list_any (λ (p : Place). is_held_by seat p && hides_card p.slot) rest) ≡ list_any hides_card (map (λ (p : Place). p.slot) (if a then (place ∷ filter (is_held_by seat) rest) else filter (is_held_by seat) rest))
+any_step seat place rest true is later = ap (λ b. hides_card place.slot || b) later
 any_step seat place rest false is later = later
 
 -- a seat holds an unknown card if one of its cards is unknown
-pub any_held : (seat : ℕ) (placed : List Place) → list_any (λ place. is_held_by seat place && is_unknown place.slot) placed ≡ list_any is_unknown (slots_held seat placed)
+pub any_held : (seat : ℕ) (placed : List Place) → list_any (λ place. is_held_by seat place && hides_card place.slot) placed ≡ list_any hides_card (slots_held seat placed)
 any_held seat [] = refl
 any_held seat (place ∷ rest) = any_step seat place rest (is_held_by seat place) refl (any_held seat rest)
 
 -- the same cards have the same unknown cards
-pub unknown_same : (seat : ℕ) (some all : List Place) → slots_held seat some ≡ slots_held seat all → list_any (λ place. is_held_by seat place && is_unknown place.slot) some ≡ list_any (λ place. is_held_by seat place && is_unknown place.slot) all
-unknown_same seat some all same = any_held seat some ∙ (ap (list_any is_unknown) same ∙ sym (any_held seat all))
+pub unknown_same : (seat : ℕ) (some all : List Place) → slots_held seat some ≡ slots_held seat all → list_any (λ place. is_held_by seat place && hides_card place.slot) some ≡ list_any (λ place. is_held_by seat place && hides_card place.slot) all
+unknown_same seat some all same = any_held seat some ∙ (ap (list_any hides_card) same ∙ sym (any_held seat all))
 
 -- a seat without an unknown card holds known ones
-pub holds_known : (seat : ℕ) (placed : List Place) → list_any (λ place. is_held_by seat place && is_unknown place.slot) placed ≡ false → HoldsKnown seat placed
+pub holds_known : (seat : ℕ) (placed : List Place) → list_any (λ place. is_held_by seat place && hides_card place.slot) placed ≡ false → HoldsKnown seat placed
 holds_known seat placed none place among held =
-    false_from_ne_true (is_unknown place.slot) (λ unknown.
-    both_ways (is_held_by seat place && is_unknown place.slot) (not_at (λ place. is_held_by seat place && is_unknown place.slot) placed place none among) (and_from (is_held_by seat place) (is_unknown place.slot) held unknown))
+    false_from_ne_true (hides_card place.slot) (λ unknown.
+    both_ways (is_held_by seat place && hides_card place.slot) (not_at (λ place. is_held_by seat place && hides_card place.slot) placed place none among) (and_from (is_held_by seat place) (hides_card place.slot) held unknown))

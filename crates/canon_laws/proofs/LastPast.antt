@@ -13,7 +13,7 @@ use Rattle.play_event.specs.Past.{Past, Move, moves_of, newest_street, moves_bef
 use Rattle.play_event.specs.Seats.{is_live, all_seats, live_count}
 use Rattle.play_event.specs.Showing.{has_mucked, is_show_due}
 use Rattle.play_event.specs.Due.{turn, due_on, first_due, is_unfinished}
-use Rattle.card_set.specs.Known.{known_cards}
+use Rattle.card_set.specs.Known.{known_among}
 use Rattle.play_event.specs.Places.{Place}
 use Rattle.play_event.specs.Table.{places_of}
 use Rattle.play_event.specs.Trace.{traced_places, streets_of, is_shown, is_contested, has_unknown_card}
@@ -94,8 +94,8 @@ last_past setup rules events legal complete =
         discarded_same (finals_of setup (places_of setup.code (past_of setup events)) (street_count setup.code)) seat 0
         ∙ sym (held_same setup rules events mines seat legal from (omega (arith, to)) live mirrored)
 
-    word_is : (seat : ℕ) (mines : List Place) (b : Bool) → 1 ≤ seat → seat < 1 + setup.stacks.seats → is_shown setup (past_of setup events) seat ≡ b → AreMirrored (moves_of (past_of setup events)) (is_out_by (street_count setup.code)) mines (finals_of setup (places_of setup.code (past_of setup events)) (street_count setup.code)) → (if b then said.Show seat (known_cards (held_slots (traced_places setup (past_of setup events)) seat)) else said.Muck seat) ≡ (if b then said.Show seat (held_cards seat mines) else said.Muck seat)
-    word_is seat mines true from to is mirrored = ap (λ l. said.Show seat (known_cards l)) (held_is seat mines from to (shown_parts setup (past_of setup events) seat is).live mirrored)
+    word_is : (seat : ℕ) (mines : List Place) (b : Bool) → 1 ≤ seat → seat < 1 + setup.stacks.seats → is_shown setup (past_of setup events) seat ≡ b → AreMirrored (moves_of (past_of setup events)) (is_out_by (street_count setup.code)) mines (finals_of setup (places_of setup.code (past_of setup events)) (street_count setup.code)) → (if b then said.Show seat (known_among (held_slots (traced_places setup (past_of setup events)) seat)) else said.Muck seat) ≡ (if b then said.Show seat (held_cards seat mines) else said.Muck seat)
+    word_is seat mines true from to is mirrored = ap (λ l. said.Show seat (known_among l)) (held_is seat mines from to (shown_parts setup (past_of setup events) seat is).live mirrored)
     word_is seat mines false from to is mirrored = refl
 
     by_over : (b : Bool) → nat_le (live_count setup (moves_of (past_of setup events))) 1 ≡ b → (e : AtEnd setup rules (past_of setup events)) → moves_of e.mine ≡ moves_of (past_of setup events) → AreMirrored (moves_of (past_of setup events)) (is_out_by (street_count setup.code)) (places_of setup.code e.mine) (finals_of setup (places_of setup.code (past_of setup events)) (street_count setup.code)) → LegalPast setup e.mine → IsLast setup rules (past_of setup events) (script_of setup (traced_places setup (past_of setup events)) (moves_of (past_of setup events)) (filter (is_shown setup (past_of setup events)) (all_seats setup)))
@@ -141,7 +141,7 @@ last_past setup rules events legal complete =
         let words : showdown_said setup tp list shown ≡ map (show_word mines is) (filter (is_live list) (all_seats setup)) =
         ap (λ b. if b then map (showing_said tp shown) (filter (is_live list) (all_seats setup)) else []) (le-leb 2 (live_count setup list) (omega (arith, leb-false (live_count setup list) 1 several)))
         ∙ map_same (showing_said tp shown) (show_word mines is) (is_live list) 1 setup.stacks.seats (λ seat from to.
-        ap (λ b. if b then said.Show seat (known_cards (held_slots tp seat)) else said.Muck seat) (is_in is 1 setup.stacks.seats seat from to) ∙ word_is seat mines (is seat) from to refl mirrored) in
+        ap (λ b. if b then said.Show seat (known_among (held_slots tp seat)) else said.Muck seat) (is_in is 1 setup.stacks.seats seat from to) ∙ word_is seat mines (is seat) from to refl mirrored) in
         let R : List Said → Type 0 = λ l. Runs setup rules [] (streets ++ l) s.after in
         let P : List Place → Type 0 = λ l. AreMirrored list (is_out_by count) l (finals_of setup placed count) in
         record {

@@ -5,7 +5,7 @@ use Rattle.card_set.specs.declared.card.Card.{Card}
 use Rattle.card_set.specs.declared.card.Slot.{Slot}
 use Rattle.card_set.specs.declared.card.Slot.TheVariants as slots
 use Rattle.card_set.specs.Deck.{is_same_card}
-use Rattle.card_set.specs.Known.{is_unknown, known_cards}
+use Rattle.card_set.specs.Known.{hides_card, known_among}
 use Rattle.play_event.specs.Places.{Place}
 use Rattle.play_event.specs.NameMatching.{without_name, unmatched_names, is_named, matched_card, after_matching}
 use Rattle.play_event.specs.Taken.{is_one_card}
@@ -20,12 +20,12 @@ slots_taken taken placed = map (λ place. place.slot) (filter taken placed)
 
 -- the known cards among what is taken
 abbrev pub names_taken : (Place → Bool) → List Place → List Card
-names_taken taken placed = known_cards (slots_taken taken placed)
+names_taken taken placed = known_among (slots_taken taken placed)
 
 -- the number of unknown ones
 abbrev pub blanks_taken : (Place → Bool) → List Place → ℕ
 blanks_taken taken [] = 0
-blanks_taken taken (place ∷ rest) = if taken place && is_unknown place.slot then suc (blanks_taken taken rest) else blanks_taken taken rest
+blanks_taken taken (place ∷ rest) = if taken place && hides_card place.slot then suc (blanks_taken taken rest) else blanks_taken taken rest
 
 -- a place is marked if it is taken
 abbrev pub marked_if : (Place → Bool) → (Place → Place) → Place → Place
@@ -35,16 +35,16 @@ marked_if taken mark place = if taken place then mark place else place
 abbrev pub BlanksFirst : (covers taken : Place → Bool) → List Place → Type 0
 BlanksFirst covers taken [] = Unit {0}
 BlanksFirst covers taken (place ∷ rest) =
-    (covers place ≡ true → is_unknown place.slot ≡ true → taken place ≡ false → blanks_taken taken rest ≡ 0) × BlanksFirst covers taken rest
+    (covers place ≡ true → hides_card place.slot ≡ true → taken place ≡ false → blanks_taken taken rest ≡ 0) × BlanksFirst covers taken rest
 
 -- covered known places are taken if their card is named
 abbrev pub NamedWhereTaken : (covers taken : Place → Bool) → List Card → List Place → Type 0
 NamedWhereTaken covers taken names placed = (place : Place) (card : Card) → IsAmong placed place → place.slot ≡ slots.Known card → covers place ≡ true → is_named card names ≡ taken place
 
 marked_at : (covers taken : Place → Bool) (mark : Place → Place) (names : List Card) (place : Place) (rest : List Place) (slot : Slot) (c t : Bool) (blanks : ℕ)
-    → (t ≡ true → c ≡ true) → ((card : Card) → slot ≡ slots.Known card → c ≡ true → is_named card names ≡ t) → (c ≡ true → is_unknown slot ≡ true → t ≡ false → blanks ≡ 0)
+    → (t ≡ true → c ≡ true) → ((card : Card) → slot ≡ slots.Known card → c ≡ true → is_named card names ≡ t) → (c ≡ true → hides_card slot ≡ true → t ≡ false → blanks ≡ 0)
     → after_matching covers mark names [] blanks rest ≡ map (marked_if taken mark) rest
-    → (if c then (let found = matched_card mark names slot [] (if t && is_unknown slot then suc blanks else blanks) place in found.place ∷ after_matching covers mark names found.others found.blanks rest) else (place ∷ after_matching covers mark names [] (if t && is_unknown slot then suc blanks else blanks) rest))
+    → (if c then (let found = matched_card mark names slot [] (if t && hides_card slot then suc blanks else blanks) place in found.place ∷ after_matching covers mark names found.others found.blanks rest) else (place ∷ after_matching covers mark names [] (if t && hides_card slot then suc blanks else blanks) rest))
     ≡ (if t then mark place else place) ∷ map (marked_if taken mark) rest
 marked_at covers taken mark names place rest slot false true blanks sub named first later = false_true (sub refl)
 marked_at covers taken mark names place rest slot false false blanks sub named first later = ap (λ l. place ∷ l) later
@@ -83,11 +83,11 @@ bears_later taken card first rest it = record { place = it.place; among = inr it
 bears_one : (taken : Place → Bool) (card : Card) (first : Place) (rest : List Place) (slot : Slot) (b : Bool) → first.slot ≡ slot → taken first ≡ true → is_one_card (slots.Known card) slot ≡ b → b ≡ true → BearsName taken card (first ∷ rest)
 bears_one taken card first rest slot b here is same one = record { place = first; among = inl refl; is_taken = is; slot_is_card = ap (is_one_card (slots.Known card)) here ∙ same ∙ one }
 
-named_at : (taken : Place → Bool) (card : Card) (first : Place) (rest : List Place) (slot : Slot) (t : Bool) → first.slot ≡ slot → taken first ≡ t → (is_named card (names_taken taken rest) ≡ true → BearsName taken card rest) → is_named card (known_cards (map (λ (place : Place). place.slot) (if t then (first ∷ filter taken rest) else filter taken rest))) ≡ true → BearsName taken card (first ∷ rest)
+named_at : (taken : Place → Bool) (card : Card) (first : Place) (rest : List Place) (slot : Slot) (t : Bool) → first.slot ≡ slot → taken first ≡ t → (is_named card (names_taken taken rest) ≡ true → BearsName taken card rest) → is_named card (known_among (map (λ (place : Place). place.slot) (if t then (first ∷ filter taken rest) else filter taken rest))) ≡ true → BearsName taken card (first ∷ rest)
 named_at taken card first rest slot false here is later named = bears_later taken card first rest (later named)
 named_at taken card first rest slots.Unknown true here is later named =
-    bears_later taken card first rest (later (sym (ap (λ s. is_named card (known_cards (s ∷ slots_taken taken rest))) here) ∙ named))
-named_at taken card first rest (slots.Known other) true here is later named = elim (or_cases (is_same_card card other) (is_named card (names_taken taken rest)) (sym (ap (λ s. is_named card (known_cards (s ∷ slots_taken taken rest))) here) ∙ named)) [
+    bears_later taken card first rest (later (sym (ap (λ s. is_named card (known_among (s ∷ slots_taken taken rest))) here) ∙ named))
+named_at taken card first rest (slots.Known other) true here is later named = elim (or_cases (is_same_card card other) (is_named card (names_taken taken rest)) (sym (ap (λ s. is_named card (known_among (s ∷ slots_taken taken rest))) here) ∙ named)) [
   | inl same ↦ bears_one taken card first rest (slots.Known other) (is_same_card card other) here is refl same
   | inr more ↦ bears_later taken card first rest (later more)
 ]
@@ -98,16 +98,16 @@ is_named_by taken card [] named = false_true named
 is_named_by taken card (first ∷ rest) named = named_at taken card first rest first.slot (taken first) refl refl (is_named_by taken card rest) named
 
 -- and the card of a taken place is named
-named_first : (taken : Place → Bool) (card : Card) (first : Place) (rest : List Place) (t : Bool) → first.slot ≡ slots.Known card → t ≡ true → is_named card (known_cards (map (λ (place : Place). place.slot) (if t then (first ∷ filter taken rest) else filter taken rest))) ≡ true
+named_first : (taken : Place → Bool) (card : Card) (first : Place) (rest : List Place) (t : Bool) → first.slot ≡ slots.Known card → t ≡ true → is_named card (known_among (map (λ (place : Place). place.slot) (if t then (first ∷ filter taken rest) else filter taken rest))) ≡ true
 named_first taken card first rest false here is = false_true is
 named_first taken card first rest true here is =
-    ap (λ s. is_named card (known_cards (s ∷ slots_taken taken rest))) here ∙ ap (λ b. b || is_named card (names_taken taken rest)) (is_same_card-self card)
+    ap (λ s. is_named card (known_among (s ∷ slots_taken taken rest))) here ∙ ap (λ b. b || is_named card (names_taken taken rest)) (is_same_card-self card)
 
-named_still : (taken : Place → Bool) (card : Card) (first : Place) (rest : List Place) (slot : Slot) (t : Bool) → first.slot ≡ slot → is_named card (names_taken taken rest) ≡ true → is_named card (known_cards (map (λ (place : Place). place.slot) (if t then (first ∷ filter taken rest) else filter taken rest))) ≡ true
+named_still : (taken : Place → Bool) (card : Card) (first : Place) (rest : List Place) (slot : Slot) (t : Bool) → first.slot ≡ slot → is_named card (names_taken taken rest) ≡ true → is_named card (known_among (map (λ (place : Place). place.slot) (if t then (first ∷ filter taken rest) else filter taken rest))) ≡ true
 named_still taken card first rest slot false here is = is
-named_still taken card first rest slots.Unknown true here is = ap (λ s. is_named card (known_cards (s ∷ slots_taken taken rest))) here ∙ is
+named_still taken card first rest slots.Unknown true here is = ap (λ s. is_named card (known_among (s ∷ slots_taken taken rest))) here ∙ is
 named_still taken card first rest (slots.Known other) true here is =
-    ap (λ s. is_named card (known_cards (s ∷ slots_taken taken rest))) here ∙ or_right (is_same_card card other) (is_named card (names_taken taken rest)) is
+    ap (λ s. is_named card (known_among (s ∷ slots_taken taken rest))) here ∙ or_right (is_same_card card other) (is_named card (names_taken taken rest)) is
 
 -- a known card that is taken is named
 pub taken_is_named : (taken : Place → Bool) (card : Card) (placed : List Place) (place : Place) → IsAmong placed place → place.slot ≡ slots.Known card → taken place ≡ true → is_named card (names_taken taken placed) ≡ true
@@ -147,14 +147,14 @@ apart covers taken (place ∷ rest) sub together = (
 )
 
 left_at : (covers taken : Place → Bool) (place : Place) (rest : List Place) (slot : Slot) (c t : Bool) → place.slot ≡ slot → (t ≡ true → c ≡ true) → ((card : Card) → slot ≡ slots.Known card → c ≡ true → t ≡ false → is_named card (names_taken taken rest) ≡ false) → unmatched_names (filter covers rest) (names_taken taken rest) ≡ []
-    → unmatched_names (if c then (place ∷ filter covers rest) else filter covers rest) (known_cards (map (λ (place : Place). place.slot) (if t then (place ∷ filter taken rest) else filter taken rest))) ≡ []
+    → unmatched_names (if c then (place ∷ filter covers rest) else filter covers rest) (known_among (map (λ (place : Place). place.slot) (if t then (place ∷ filter taken rest) else filter taken rest))) ≡ []
 left_at covers taken place rest slot false true here sub free later = false_true (sub refl)
 left_at covers taken place rest slot false false here sub free later = later
 left_at covers taken place rest slots.Unknown true true here sub free later =
-    ap (λ s. unmatched_names (filter covers rest) (without_name s (known_cards (s ∷ slots_taken taken rest)))) here ∙ later
+    ap (λ s. unmatched_names (filter covers rest) (without_name s (known_among (s ∷ slots_taken taken rest)))) here ∙ later
 left_at covers taken place rest slots.Unknown true false here sub free later = ap (λ s. unmatched_names (filter covers rest) (without_name s (names_taken taken rest))) here ∙ later
 left_at covers taken place rest (slots.Known card) true true here sub free later =
-    ap (λ s. unmatched_names (filter covers rest) (without_name s (known_cards (s ∷ slots_taken taken rest)))) here
+    ap (λ s. unmatched_names (filter covers rest) (without_name s (known_among (s ∷ slots_taken taken rest)))) here
     ∙ ap (λ b. unmatched_names (filter covers rest) (if b then names_taken taken rest else (card ∷ without_name (slots.Known card) (names_taken taken rest)))) (is_same_card-self card) ∙ later
 left_at covers taken place rest (slots.Known card) true false here sub free later =
     ap (λ s. unmatched_names (filter covers rest) (without_name s (names_taken taken rest))) here

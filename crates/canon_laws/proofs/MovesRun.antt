@@ -6,7 +6,7 @@ use Rattle.play_event.specs.declared.code.Code.{Code}
 use Rattle.play_event.specs.declared.setup.Setup.{Setup}
 use Rattle.play_event.specs.declared.setup.Rules.{Rules}
 use Rattle.play_event.specs.Said.{Said}
-use Rattle.play_event.specs.Past.{Past, Move, Moved, moves_of, newest_street, is_fold}
+use Rattle.play_event.specs.Past.{Past, Move, Moved, moves_of, newest_street, is_folding}
 use Rattle.play_event.specs.Seats.{is_live, live_count}
 use Rattle.play_event.specs.Chips.{chips_left}
 use Rattle.play_event.specs.Dealing.{is_deal_due, is_draw_due}
@@ -84,7 +84,7 @@ fold_ups code street seat who count (place ∷ rest) = by_held (is_held_by who p
 
 still_ups : (code : Code) (list : List Move) (before : Past) (street seat : ℕ) → ups_by code (places_of code (with_moves list before)) street seat ≡ ups_by code (places_of code before) street seat
 still_ups code [] before street seat = refl
-still_ups code (move ∷ rest) before street seat = by_fold (is_fold move.act) ∙ still_ups code rest before street seat
+still_ups code (move ∷ rest) before street seat = by_fold (is_folding move.act) ∙ still_ups code rest before street seat
   where
     by_fold : (b : Bool) → ups_by code (if b then after_fold move.seat (places_of code (with_moves rest before)) else places_of code (with_moves rest before)) street seat ≡ ups_by code (places_of code (with_moves rest before)) street seat
     by_fold true = fold_ups code street seat move.seat (length (places_of code (with_moves rest before))) (places_of code (with_moves rest before))

@@ -12,7 +12,7 @@ use Rattle.play_event.specs.Seats.{all_seats, is_live, live_count}
 use Rattle.play_event.specs.Streets.{has_draw}
 use Rattle.play_event.specs.Trace.{TracedPlace, streets_of}
 use Rattle.play_event.specs.CanonScript.{act_named, board_said, canonical_script, deal_said, deals_said, dealt_slots, discarded_slots, discards_said, drawing_seats, is_reached, move_named, moves_named, plain_moves, showdown_said, showing_said, street_said}
-use Rattle.play_event.specs.PlayedScript.{is_move}
+use Rattle.play_event.specs.PlayedScript.{is_move_event}
 use Rattle.play_event.specs.TraceCore.{TraceCore}
 use Rattle.play_event.proofs.StreetLaws.{few_streets}
 use Rattle.play_event.proofs.Deals.{one_board, one_deal}
@@ -21,17 +21,17 @@ use Rattle.card_set.proofs.FlatMaps.{flat_few}
 
 -- the number of events that are no moves
 abbrev others : List Said → ℕ
-others events = count_by (λ event. not (is_move event)) events
+others events = count_by (λ event. not (is_move_event event)) events
 
 both : (xs ys : List Said) → others (xs ++ ys) ≡ others xs + others ys
 both [] ys = omega arith
 both (x ∷ xs) ys =
-    let p : Said → Bool = λ event. not (is_move event) in
+    let p : Said → Bool = λ event. not (is_move_event event) in
     omega (arith, count_by-cons p x (xs ++ ys), count_by-cons p x xs, both xs ys)
 
 -- at most as many as there are events
 few : (events : List Said) (most : ℕ) → length events ≤ most → others events ≤ most
-few events most short = omega (arith, short, count_by-le-length (λ event. not (is_move event)) events)
+few events most short = omega (arith, short, count_by-le-length (λ event. not (is_move_event event)) events)
 
 ten_seats : (setup : Setup) → length (all_seats setup) ≤ 10
 ten_seats setup = omega (arith, length-range_with_len 1 setup.stacks.seats, setup.stacks.greatest)
@@ -40,7 +40,7 @@ maybe : (some : Bool) (events : List Said) (most : ℕ) → length events ≤ mo
 maybe true events most short = few events most short
 maybe false events most short = omega arith
 
-act_moves : (act : Act) (seat target : ℕ) → is_move (act_named act seat target) ≡ true
+act_moves : (act : Act) (seat target : ℕ) → is_move_event (act_named act seat target) ≡ true
 act_moves Folded seat target = refl
 act_moves Called seat target = refl
 act_moves Raised seat target = refl
@@ -50,7 +50,7 @@ act_moves BroughtIn seat target = refl
 none_other : (moves : List Move) → others (map move_named moves) ≡ 0
 none_other [] = refl
 none_other (move ∷ rest) =
-    let p : Said → Bool = λ event. not (is_move event) in
+    let p : Said → Bool = λ event. not (is_move_event event) in
     omega (arith, count_by-cons p (move_named move) (map move_named rest), ap {B = ℕ} (λ b. cond (not b) 1 0) (act_moves move.act move.seat move.to), none_other rest)
 
 module _ (setup : Setup) (placed : List TracedPlace) (moves : List Move) where
@@ -94,7 +94,7 @@ module _ (setup : Setup) (placed : List TracedPlace) (moves : List Move) where
       (omega (arith, length-map (filter (is_live moves) (all_seats setup)) (showing_said placed shown), kept_few (is_live moves) (all_seats setup), ten_seats setup))
 
 -- a canonical script has no more other events than a hand may have
-pub few_others : (setup : Setup) (trace : TraceCore) → count_by (λ event. not (is_move event)) (canonical_script setup trace) ≤ 256
+pub few_others : (setup : Setup) (trace : TraceCore) → count_by (λ event. not (is_move_event event)) (canonical_script setup trace) ≤ 256
 unfolding canonical_script
 few_others setup trace =
     let moves : List Move = plain_moves trace.moves in

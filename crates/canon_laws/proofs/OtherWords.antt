@@ -5,7 +5,7 @@ use Rattle.std.specs.List.{flat_map, range_with_len}
 use Rattle.std.proofs.lemmas.List.{append-nil, map-append, reverse-append, reverse-reverse}
 use Rattle.card_set.specs.declared.card.Slot.{Slot}
 use Rattle.play_event.specs.CanonScript.{board_said, deal_said, dealt_slots, deals_said, discarded_slots, discards_said, drawing_seats, is_reached, move_named, moves_named, street_said}
-use Rattle.play_event.specs.PlayedScript.{is_move}
+use Rattle.play_event.specs.PlayedScript.{is_move_event}
 use Rattle.play_event.specs.Past.{Move, moves_before}
 use Rattle.play_event.specs.Said.{Discard, Said}
 use Rattle.play_event.specs.Seats.{all_seats}
@@ -18,7 +18,7 @@ use Rattle.canon_laws.proofs.Runs.{more_events}
 -- no event is a move
 abbrev pub NoMoves : List Said → Type 0
 NoMoves [] = Unit {0}
-NoMoves (event ∷ events) = (is_move event ≡ false) × NoMoves events
+NoMoves (event ∷ events) = (is_move_event event ≡ false) × NoMoves events
 
 both_no : (first second : List Said) → NoMoves first → NoMoves second → NoMoves (first ++ second)
 both_no [] second one two = two
@@ -66,7 +66,7 @@ abbrev pub street_as : Setup → List TracedPlace → (ℕ → List Said) → �
 street_as setup placed moves_as street = deals_said setup placed street ++ moves_as street
 
 -- events (newest first) with their moves, and the same events in other words; only moves change
-module _ (Says : List Said → List Move → List Said → Type 0) (stays : (event : Said) (events : List Said) (moves : List Move) (words : List Said) → is_move event ≡ false → Says events moves words → Says (event ∷ events) moves (event ∷ words)) where
+module _ (Says : List Said → List Move → List Said → Type 0) (stays : (event : Said) (events : List Said) (moves : List Move) (words : List Said) → is_move_event event ≡ false → Says events moves words → Says (event ∷ events) moves (event ∷ words)) where
   -- this holds of events that are not moves
   pub quiet_stay : (quiet events : List Said) (moves : List Move) (words : List Said) → NoMoves quiet → Says events moves words → Says (reverse quiet ++ events) moves (reverse quiet ++ words)
   quiet_stay [] events moves words none before = before

@@ -19,7 +19,7 @@ use Rattle.play_event.specs.Said.{Said}
 use Rattle.play_event.specs.Scripts.{past_of}
 use Rattle.play_event.specs.Streets.{limit_of, unit}
 use Rattle.play_event.specs.Targets.{floor, full_targets, greatest_target_in, is_target_in, pot_ceiling}
-use Rattle.play_event.specs.ValidSetup.{IsValid, is_fixed}
+use Rattle.play_event.specs.ValidSetup.{IsValid, is_fixed_limit}
 use Rattle.play_event.specs.declared.event.Spelled.TheVariants as spelled
 use Rattle.play_event.specs.declared.limit.Limit.TheVariants as limits
 use Rattle.play_event.specs.declared.limit.Limit.{Limit}
@@ -77,7 +77,7 @@ module _ (the_current_bet the_unit last target : ℕ) where
 
 -- a target that is not refused does not reduce its seat's chips on the street
 goes_up : (limit : Limit) (reopen : Reopen) (setup : Setup) (moves : List Move) (street seat target : ℕ) → street_chips setup moves street seat ≤ current_bet setup moves street
-    → (is_fixed limit ≡ false → current_bet setup moves street ≤ floor reopen setup moves street)
+    → (is_fixed_limit limit ≡ false → current_bet setup moves street ≤ floor reopen setup moves street)
     → (legal : Bool) → is_target_in limit reopen setup moves street seat target ≡ legal
     → (not legal && nat_lt target (greatest_target_in limit setup moves street seat)) ≡ false
     → street_chips setup moves street seat ≤ target

@@ -2,7 +2,7 @@
 -- after another.
 use Rattle.std.proofs.Common.{◌≡◌, false, List, ◌∷◌, None, refl, sym, ap, ◌∙◌, true≢false}
 use Rattle.play_event.specs.CanonScript.{act_named}
-use Rattle.play_event.specs.PlayedScript.{is_move}
+use Rattle.play_event.specs.PlayedScript.{is_move_event}
 use Rattle.play_event.specs.Chips.{street_chips}
 use Rattle.play_event.specs.Due.{turn}
 use Rattle.play_event.specs.Laws.{AreLegal}
@@ -33,7 +33,7 @@ one_more setup rules events words event word same is =
     }
 
 -- an event that is no move does not change the moves
-pub same_moves : (setup : Setup) (past : Past) (event : Said) → is_move event ≡ false → moves_of (with_event setup event past) ≡ moves_of past
+pub same_moves : (setup : Setup) (past : Past) (event : Said) → is_move_event event ≡ false → moves_of (with_event setup event past) ≡ moves_of past
 unfolding with_event
 same_moves setup past (said.Hole seat cards) still = refl
 same_moves setup past (said.Board cards) still = refl

@@ -15,7 +15,7 @@ use Rattle.play_event.specs.Past.{Past, Move, moves_of, newest_street}
 use Rattle.play_event.specs.Seats.{is_live, live_count}
 use Rattle.play_event.specs.Showing.{has_shown, has_mucked, has_to_show}
 use Rattle.play_event.specs.Due.{turn, due_on, first_due, showdown}
-use Rattle.card_set.specs.Known.{is_unknown}
+use Rattle.card_set.specs.Known.{hides_card}
 use Rattle.play_event.specs.Places.{Place}
 use Rattle.play_event.specs.NameMatching.{held_count, after_show, held_down_count}
 use Rattle.play_event.specs.Table.{places_of, up_cards}
@@ -92,7 +92,7 @@ one_show setup rules list placed shown first mine several at least most live is 
     record {
       after = after;
       legal = show_legal setup rules mine (street_count setup.code) first cards turned (may_now setup list placed shown first mine at least most live)
-          (subst C (sym at.places) (or_left (length cards == held_count placed first) ((length cards == held_down_count setup.code placed first) && not (list_any is_unknown (up_cards setup.code mine first))) (eq-eqb (length cards) (held_count placed first) clean.count)))
+          (subst C (sym at.places) (or_left (length cards == held_count placed first) ((length cards == held_down_count setup.code placed first) && not (list_any hides_card (up_cards setup.code mine first))) (eq-eqb (length cards) (held_count placed first) clean.count)))
           (subst F (sym at.places) clean.free) (subst H (sym at.places) clean.held);
       placed_so = show_placed setup mine (street_count setup.code) dues.Show first cards turned;
       at = record {

@@ -7,7 +7,7 @@ use Rattle.play_event.specs.Past as past
 use Rattle.play_event.specs.Past.{Past, moves_of, newest_street}
 use Rattle.play_event.specs.Dealing.{hole_cards_dealt, board_cards_dealt, cards_discarded, has_drawn}
 use Rattle.play_event.specs.Showing.{has_shown, has_mucked}
-use Rattle.card_set.specs.Known.{known_cards}
+use Rattle.card_set.specs.Known.{known_among}
 use Rattle.canon_laws.proofs.DealsRun.{with_deal, with_deals}
 use Rattle.canon_laws.proofs.DrawRun.{with_discards}
 use Rattle.canon_laws.proofs.BoardRun.{with_board}
@@ -94,7 +94,7 @@ aside_board street (slot ∷ rest) before =
       moves = refl;
       newest = λ on. omega arith;
       holes = λ other seat differ. refl;
-      board = λ other differ. omega (arith, ap (λ b. if b then length (known_cards (slot ∷ rest)) else 0) (ne_eqb street other differ));
+      board = λ other differ. omega (arith, ap (λ b. if b then length (known_among (slot ∷ rest)) else 0) (ne_eqb street other differ));
       out = λ other seat differ. refl;
       drawn = λ other seat differ. refl;
       shown = λ seat. refl;
@@ -185,9 +185,9 @@ board_drawn street [] before on seat = refl
 board_drawn street (slot ∷ rest) before on seat = refl
 
 -- what the deal of the board dealt
-pub board_own : (street : ℕ) (cards : List Slot) (before : Past) → length (known_cards cards) ≡ length cards → board_cards_dealt (with_board street cards before) street ≡ length cards + board_cards_dealt before street
+pub board_own : (street : ℕ) (cards : List Slot) (before : Past) → length (known_among cards) ≡ length cards → board_cards_dealt (with_board street cards before) street ≡ length cards + board_cards_dealt before street
 board_own street [] before known = omega arith
-board_own street (slot ∷ rest) before known = omega (arith, known, ap (λ b. if b then length (known_cards (slot ∷ rest)) else 0) (eq-eqb street street refl))
+board_own street (slot ∷ rest) before known = omega (arith, known, ap (λ b. if b then length (known_among (slot ∷ rest)) else 0) (eq-eqb street street refl))
 
 -- discards of seats: each seat of a list once
 out_below : (street : ℕ) (names : ℕ → List Slot) (p : ℕ → Bool) (first count : ℕ) (before : Past) (seat : ℕ) → seat < first → cards_discarded (with_discards street names (filter p (range_with_len first count)) before) street seat ≡ cards_discarded before street seat

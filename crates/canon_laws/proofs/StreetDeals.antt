@@ -14,7 +14,7 @@ use Rattle.play_event.specs.Said.{Said}
 use Rattle.play_event.specs.Past.{Past, Move, moves_of, moves_before}
 use Rattle.play_event.specs.Seats.{is_live, all_seats, live_count}
 use Rattle.play_event.specs.Dealing.{is_deal_due, is_draw_due, hole_cards_dealt, board_cards_dealt, cards_discarded, has_drawn, cards_owed, hole_cards_owed, board_cards_owed, replacements_owed, next_to_draw}
-use Rattle.card_set.specs.Known.{is_unknown}
+use Rattle.card_set.specs.Known.{hides_card}
 use Rattle.play_event.specs.Places.{Place, is_same_owner, is_in_group, after_deal, group_of}
 use Rattle.play_event.specs.Table.{places_of}
 use Rattle.play_event.specs.Trace.{traced_places, places_on}
@@ -79,7 +79,7 @@ owed_cards setup rules events start mine before seat false false legal done at l
     sym (length-map (group_of placed (before + 1) (Some seat)) (λ (p : Place). p.slot) ∙ folded_group setup script (before + 1) seat (legal_past setup rules events legal).places (sym (ap (λ l. is_live l seat) at.same_moves) ∙ folded))
 
 -- a deal of no board cards is no deal
-maybe_board : (code : Code) (moves : List Move) (placed : List Place) (street : ℕ) (before : Past) (finals : List Place) (cards : List Slot) (group : List Place) → AreDealt code moves placed street (places_of code before) finals → AreDealt code moves placed street (after_deal code None street cards (places_of code before)) (finals ++ group) → (cards ≡ [] → group ≡ []) → ((slot : Slot) → IsOneOf cards slot → is_unknown slot ≡ false) → AreDealt code moves placed street (places_of code (with_board street cards before)) (finals ++ group)
+maybe_board : (code : Code) (moves : List Move) (placed : List Place) (street : ℕ) (before : Past) (finals : List Place) (cards : List Slot) (group : List Place) → AreDealt code moves placed street (places_of code before) finals → AreDealt code moves placed street (after_deal code None street cards (places_of code before)) (finals ++ group) → (cards ≡ [] → group ≡ []) → ((slot : Slot) → IsOneOf cards slot → hides_card slot ≡ false) → AreDealt code moves placed street (places_of code (with_board street cards before)) (finals ++ group)
 maybe_board code moves placed street before finals [] group so_far more none known =
     let P : List Place → Type 0 = λ all. AreDealt code moves placed street (places_of code before) all in
     subst P (sym (append-nil finals) ∙ ap (λ g. finals ++ g) (sym (none refl))) so_far
@@ -164,10 +164,10 @@ all_dealt setup rules events before start mine legal done last at =
     (λ final seat among from. let it = is_final setup placed before final among in record { among = it.among; reached = omega (arith, it.most); apart = λ here own. omega (arith, here, it.most) }) in
     let owed : (seat : ℕ) → 1 ≤ seat → seat ≤ n → cards_owed setup mine street seat ≡ length (cards seat) = λ seat least most. owed_cards setup rules events start mine before seat (is_live (moves_of mine) seat) (has_draw setup.code street) legal done at least most refl refl in
     let run = deals_part setup rules events before start mine (has_draw setup.code street) legal done at refl out.free owed in
-    let known : (slot : Slot) → IsOneOf board slot → is_unknown slot ≡ false = λ slot among.
+    let known : (slot : Slot) → IsOneOf board slot → hides_card slot ≡ false = λ slot among.
     let it = one_of_map (group_of placed street None) slot among in
     let place = passed (is_in_group None street) placed it.0 it.1.0 in
-    ap is_unknown (sym it.1.1) ∙ board_known setup rules events legal it.0 place.among (is_same_owner-true it.0.owner None (and_parts (is_same_owner it.0.owner None) (it.0.street == street) place.passes).0) in
+    ap hides_card (sym it.1.1) ∙ board_known setup rules events legal it.0 place.among (is_same_owner-true it.0.owner None (and_parts (is_same_owner it.0.owner None) (it.0.street == street) place.passes).0) in
     let come = come_block setup street mine middle (deals_block street cards (all_seats setup) mine) (aside_deals street cards (all_seats setup) mine).moves at.come in
     let board_length : length board ≡ board_cards_on setup.code street = length-map (group_of placed street None) (λ (p : Place). p.slot) ∙ board_group setup script street (legal_done setup rules events legal).done done in
     let no_board_yet : board_cards_dealt middle street ≡ 0 = deals_board street cards (all_seats setup) mine street ∙ at.board in

@@ -6,7 +6,7 @@ use Rattle.play_event.specs.declared.code.Code.{Code}
 use Rattle.play_event.specs.declared.setup.Setup.{Setup}
 use Rattle.play_event.specs.declared.setup.Rules.{Rules}
 use Rattle.play_event.specs.Said.{Said}
-use Rattle.play_event.specs.Past.{Past, Resolved, Move, moves_of, newest_street, is_fold, moves_before}
+use Rattle.play_event.specs.Past.{Past, Resolved, Move, moves_of, newest_street, is_folding, moves_before}
 use Rattle.play_event.specs.Due.{turn}
 use Rattle.play_event.specs.Places.{Place, is_same_owner, is_held_by, folded_place, gone_now, after_fold}
 use Rattle.play_event.specs.Table.{places_of}
@@ -83,7 +83,7 @@ moves_split street (first ∷ older) falling = elim (cases_lt first.street stree
     above late differ = elim (cases_lt street first.street) [ inl less ↦ omega (arith, less) | inr more ↦ absurd (differ (omega (arith, more, late))) ]
 
 -- a move keeps the mirror
-fold_gone : (played : Move) (list : List Move) (count : ℕ) (place : Place) (x o g : Bool) → is_fold played.act ≡ true → is_same_owner place.owner (Some played.seat) ≡ o → is_none place.gone_after ≡ g → is_some place.gone_after ≡ (x || has_owner_folded list place.owner) → is_some (if o && g then gone_now count place else place).gone_after ≡ (x || has_owner_folded (played ∷ list) place.owner)
+fold_gone : (played : Move) (list : List Move) (count : ℕ) (place : Place) (x o g : Bool) → is_folding played.act ≡ true → is_same_owner place.owner (Some played.seat) ≡ o → is_none place.gone_after ≡ g → is_some place.gone_after ≡ (x || has_owner_folded list place.owner) → is_some (if o && g then gone_now count place else place).gone_after ≡ (x || has_owner_folded (played ∷ list) place.owner)
 fold_gone played list count place x true true fold owner gone was = sym (or_right x (has_owner_folded (played ∷ list) place.owner) (own place.owner owner))
   where
     own : (who : Option ℕ) → is_same_owner who (Some played.seat) ≡ true → has_owner_folded (played ∷ list) who ≡ true
@@ -97,7 +97,7 @@ fold_gone played list count place x true false fold owner gone was =
     own None same = false_true same
 fold_gone played list count place x false g fold owner gone was = was ∙ ap (λ f. x || f) (sym (folded_other played list place.owner false owner refl))
 
-fold_mirror : (played : Move) (list : List Move) (out : Place → Bool) (count : ℕ) (mine final : Place) → is_fold played.act ≡ true → Mirrors list out mine final → Mirrors (played ∷ list) out (folded_place played.seat count mine) final
+fold_mirror : (played : Move) (list : List Move) (out : Place → Bool) (count : ℕ) (mine final : Place) → is_folding played.act ≡ true → Mirrors list out mine final → Mirrors (played ∷ list) out (folded_place played.seat count mine) final
 fold_mirror played list out count mine final fold mirror =
     let gone = fold_gone played list count mine (out final) (is_same_owner mine.owner (Some played.seat)) (is_none mine.gone_after) fold refl refl (mirror.gone_after ∙ ap (λ o. out final || has_owner_folded list o) (sym mirror.owner)) in
     by_held (is_held_by played.seat mine) (gone ∙ ap (λ o. out final || has_owner_folded (played ∷ list) o) mirror.owner)
@@ -106,13 +106,13 @@ fold_mirror played list out count mine final fold mirror =
     by_held true gone = record { owner = mirror.owner; street = mirror.street; index = mirror.index; slot = mirror.slot; discarded = mirror.discarded; gone_after = gone }
     by_held false gone = record { owner = mirror.owner; street = mirror.street; index = mirror.index; slot = mirror.slot; discarded = mirror.discarded; gone_after = gone }
 
-folds_mirrored : (played : Move) (list : List Move) (out : Place → Bool) (count : ℕ) (mines finals : List Place) → is_fold played.act ≡ true → AreMirrored list out mines finals → AreMirrored (played ∷ list) out (map (folded_place played.seat count) mines) finals
+folds_mirrored : (played : Move) (list : List Move) (out : Place → Bool) (count : ℕ) (mines finals : List Place) → is_folding played.act ≡ true → AreMirrored list out mines finals → AreMirrored (played ∷ list) out (map (folded_place played.seat count) mines) finals
 folds_mirrored played list out count [] [] fold mirrored = tt
 folds_mirrored played list out count [] (final ∷ finals) fold mirrored = absurd mirrored
 folds_mirrored played list out count (mine ∷ mines) [] fold mirrored = absurd mirrored
 folds_mirrored played list out count (mine ∷ mines) (final ∷ finals) fold mirrored = (fold_mirror played list out count mine final fold mirrored.0, folds_mirrored played list out count mines finals fold mirrored.1)
 
-others_mirrored : (played : Move) (list : List Move) (out : Place → Bool) (mines finals : List Place) → is_fold played.act ≡ false → AreMirrored list out mines finals → AreMirrored (played ∷ list) out mines finals
+others_mirrored : (played : Move) (list : List Move) (out : Place → Bool) (mines finals : List Place) → is_folding played.act ≡ false → AreMirrored list out mines finals → AreMirrored (played ∷ list) out mines finals
 others_mirrored played list out [] [] other mirrored = tt
 others_mirrored played list out [] (final ∷ finals) other mirrored = absurd mirrored
 others_mirrored played list out (mine ∷ mines) [] other mirrored = absurd mirrored
@@ -125,8 +125,8 @@ others_mirrored played list out (mine ∷ mines) (final ∷ finals) other mirror
 -- moves keep the mirror, except who has folded
 pub moves_mirrored : (code : Code) (list older : List Move) (out : Place → Bool) (before : Past) (finals : List Place) → AreMirrored older out (places_of code before) finals → AreMirrored (list ++ older) out (places_of code (with_moves list before)) finals
 moves_mirrored code [] older out before finals mirrored = mirrored
-moves_mirrored code (played ∷ rest) older out before finals mirrored = by_fold (is_fold played.act) refl (moves_mirrored code rest older out before finals mirrored)
+moves_mirrored code (played ∷ rest) older out before finals mirrored = by_fold (is_folding played.act) refl (moves_mirrored code rest older out before finals mirrored)
   where
-    by_fold : (b : Bool) → is_fold played.act ≡ b → AreMirrored (rest ++ older) out (places_of code (with_moves rest before)) finals → AreMirrored (played ∷ (rest ++ older)) out (if b then after_fold played.seat (places_of code (with_moves rest before)) else places_of code (with_moves rest before)) finals
+    by_fold : (b : Bool) → is_folding played.act ≡ b → AreMirrored (rest ++ older) out (places_of code (with_moves rest before)) finals → AreMirrored (played ∷ (rest ++ older)) out (if b then after_fold played.seat (places_of code (with_moves rest before)) else places_of code (with_moves rest before)) finals
     by_fold true fold it = folds_mirrored played (rest ++ older) out (length (places_of code (with_moves rest before))) (places_of code (with_moves rest before)) finals fold it
     by_fold false other it = others_mirrored played (rest ++ older) out (places_of code (with_moves rest before)) finals other it

@@ -9,7 +9,7 @@ use Rattle.canon_laws.proofs.TraceOrder.{IsOwner, a_seat, the_board}
 use Rattle.canon_laws.proofs.AllStreets.{legal_since, none_first}
 use Rattle.canon_laws.proofs.StreetDeals.{group_is}
 use Rattle.play_event.specs.CanonScript.{dealt_slots, is_dealt_to}
-use Rattle.card_set.specs.Known.{is_unknown}
+use Rattle.card_set.specs.Known.{hides_card}
 use Rattle.card_set.proofs.Any.{list_any-filter, list_any-map}
 use Rattle.card_set.proofs.Counting.{count_all, counts_fewer}
 use Rattle.card_set.proofs.Finding.{none_stronger}
@@ -107,15 +107,15 @@ four_streets setup rules events legal complete no_draw four (suc before) low hig
     next n = omega arith
 
 -- the cards of a tidy board are known
-pub board_known : (placed : List TracedPlace) (street : ℕ) → list_any (λ place. is_same_owner place.owner None && is_unknown place.slot) placed ≡ false → list_any is_unknown (dealt_slots placed None street) ≡ false
+pub board_known : (placed : List TracedPlace) (street : ℕ) → list_any (λ place. is_same_owner place.owner None && hides_card place.slot) placed ≡ false → list_any hides_card (dealt_slots placed None street) ≡ false
 board_known placed street known =
-    list_any-map is_unknown (λ (place : TracedPlace). place.slot) (filter (is_dealt_to None street) placed)
-    ∙ list_any-filter (λ (place : TracedPlace). is_unknown place.slot) (is_dealt_to None street) placed
-    ∙ none_stronger (λ (place : TracedPlace). is_dealt_to None street place && is_unknown place.slot) (λ (place : TracedPlace). is_same_owner place.owner None && is_unknown place.slot) weaker placed known
+    list_any-map hides_card (λ (place : TracedPlace). place.slot) (filter (is_dealt_to None street) placed)
+    ∙ list_any-filter (λ (place : TracedPlace). hides_card place.slot) (is_dealt_to None street) placed
+    ∙ none_stronger (λ (place : TracedPlace). is_dealt_to None street place && hides_card place.slot) (λ (place : TracedPlace). is_same_owner place.owner None && hides_card place.slot) weaker placed known
   where
-    weaker : (place : TracedPlace) → (is_dealt_to None street place && is_unknown place.slot) ≡ true → (is_same_owner place.owner None && is_unknown place.slot) ≡ true
+    weaker : (place : TracedPlace) → (is_dealt_to None street place && hides_card place.slot) ≡ true → (is_same_owner place.owner None && hides_card place.slot) ≡ true
     weaker place both =
-        let outer = and_parts (is_dealt_to None street place) (is_unknown place.slot) both in
+        let outer = and_parts (is_dealt_to None street place) (hides_card place.slot) both in
         let inner = and_parts (is_same_owner place.owner None) (place.street == street) outer.0 in
         rw (inner.0, outer.1) refl
 

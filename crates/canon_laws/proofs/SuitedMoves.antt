@@ -4,7 +4,7 @@ use Rattle.std.specs.List.{list_any}
 use Rattle.std.proofs.lemmas.Bool.{cases_lt, eq-eqb, lt-ltb, or_left, or_parts, or_right}
 use Rattle.card_set.proofs.Counting.{count_by-cons}
 use Rattle.card_set.proofs.Finding.{list_any-push}
-use Rattle.play_event.specs.Past.{Move, is_raise, moves_of, moves_on}
+use Rattle.play_event.specs.Past.{Move, is_raising, moves_of, moves_on}
 use Rattle.play_event.specs.CurrentBet.{current_bet}
 use Rattle.play_event.specs.Raising.{is_closed, is_within_cap, raises_on}
 use Rattle.play_event.specs.Said.{Said}
@@ -25,13 +25,13 @@ abbrev pub AreWithin : Option (List ℕ) → List Move → Type 0
 AreWithin caps moves = IfSome caps (λ caps. (street : ℕ) → street ≤ 4 → raises_on moves street ≤ slice_index caps (street - 1))
 
 -- the number of raises with one more move
-pub one_more : (move : Move) (older : List Move) (street : ℕ) (b : Bool) → (move.street == street) ≡ b → raises_on (move ∷ older) street ≡ cond (b && is_raise move.act) 1 0 + raises_on older street
+pub one_more : (move : Move) (older : List Move) (street : ℕ) (b : Bool) → (move.street == street) ≡ b → raises_on (move ∷ older) street ≡ cond (b && is_raising move.act) 1 0 + raises_on older street
 one_more move older street true here =
-    ap (λ c. count_by (λ m. is_raise m.act) (if c then (move ∷ moves_on street older) else moves_on street older)) here
-    ∙ count_by-cons (λ m. is_raise m.act) move (moves_on street older)
+    ap (λ c. count_by (λ m. is_raising m.act) (if c then (move ∷ moves_on street older) else moves_on street older)) here
+    ∙ count_by-cons (λ m. is_raising m.act) move (moves_on street older)
 one_more move older street false here =
     let none : raises_on older street ≡ 0 + raises_on older street = omega arith in
-    ap (λ c. count_by (λ m. is_raise m.act) (if c then (move ∷ moves_on street older) else moves_on street older)) here ∙ none
+    ap (λ c. count_by (λ m. is_raising m.act) (if c then (move ∷ moves_on street older) else moves_on street older)) here ∙ none
 
 -- with fewer moves they still are
 within_older : (caps : Option (List ℕ)) (move : Move) (older : List Move) → AreWithin caps (move ∷ older) → AreWithin caps older
@@ -39,13 +39,13 @@ within_older None move older within = tt
 within_older (Some caps) move older within = λ street first. omega (arith, within street first, one_more move older street (move.street == street) refl)
 
 -- and a raise is one more than those before it, which are below the cap
-within_raise : (caps : Option (List ℕ)) (move : Move) (older : List Move) → is_raise move.act ≡ true → AreWithin caps (move ∷ older) → is_within_cap caps older move.street ≡ true
+within_raise : (caps : Option (List ℕ)) (move : Move) (older : List Move) → is_raising move.act ≡ true → AreWithin caps (move ∷ older) → is_within_cap caps older move.street ≡ true
 within_raise None move older raises within = refl
 within_raise (Some caps) move older raises within = elim (cases_lt 4 move.street) [
   | inl late ↦ or_left (nat_lt 4 move.street) (nat_lt (raises_on older move.street) (slice_index caps (move.street - 1))) (lt-ltb 4 move.street late)
   | inr early ↦
       let count = one_more move older move.street true (eq-eqb move.street move.street refl) in
-      let one : ◌≡◌ {A = ℕ} (cond (is_raise move.act) 1 0) 1 = ap {B = ℕ} (λ b. cond b 1 0) raises in
+      let one : ◌≡◌ {A = ℕ} (cond (is_raising move.act) 1 0) 1 = ap {B = ℕ} (λ b. cond b 1 0) raises in
       or_right (nat_lt 4 move.street) (nat_lt (raises_on older move.street) (slice_index caps (move.street - 1)))
       (lt-ltb (raises_on older move.street) (slice_index caps (move.street - 1)) (omega (arith, within move.street (omega (arith, early)), count, one)))
 ]

@@ -11,7 +11,7 @@ use Rattle.play_event.specs.Chips.{all_in, street_chips}
 use Rattle.play_event.specs.Laws.{NoneHold}
 use Rattle.play_event.specs.MoveReasons.{actor_of}
 use Rattle.play_event.specs.Openers.{TheSeat}
-use Rattle.play_event.specs.Past.{Folded, Move, Moved, Resolved, is_raise, moves_of}
+use Rattle.play_event.specs.Past.{Folded, Move, Moved, Resolved, is_raising, moves_of}
 use Rattle.play_event.specs.Places.{Place}
 use Rattle.play_event.specs.CurrentBet.{current_bet}
 use Rattle.play_event.specs.Raising.{has_able_opponent, is_closed, is_reopened, is_within_cap, raises_on}
@@ -105,14 +105,14 @@ room caps older street first within = elim (or_cases (nat_lt 4 street) (nat_lt (
   | inr few ↦ omega (arith, ltb-true (raises_on older street) (slice_index caps (street - 1)) few)
 ]
 
-within_more : (caps : List ℕ) (move : Move) (older : List Move) (street : ℕ) → (is_raise move.act ≡ true → is_within_cap (Some caps) older move.street ≡ true) → raises_on older street ≤ slice_index caps (street - 1) → street ≤ 4
-    → (here raises : Bool) → (move.street == street) ≡ here → is_raise move.act ≡ raises → raises_on (move ∷ older) street ≤ slice_index caps (street - 1)
+within_more : (caps : List ℕ) (move : Move) (older : List Move) (street : ℕ) → (is_raising move.act ≡ true → is_within_cap (Some caps) older move.street ≡ true) → raises_on older street ≤ slice_index caps (street - 1) → street ≤ 4
+    → (here raises : Bool) → (move.street == street) ≡ here → is_raising move.act ≡ raises → raises_on (move ∷ older) street ≤ slice_index caps (street - 1)
 within_more caps move older street cap before first false raises here is = omega (arith, before, one_more move older street false here)
 within_more caps move older street cap before first true false here is =
-    let none : ◌≡◌ {A = ℕ} (cond (is_raise move.act) 1 0) 0 = ap {B = ℕ} (λ b. cond b 1 0) is in
+    let none : ◌≡◌ {A = ℕ} (cond (is_raising move.act) 1 0) 0 = ap {B = ℕ} (λ b. cond b 1 0) is in
     omega (arith, before, one_more move older street true here, none)
 within_more caps move older street cap before first true true here is =
-    let one : ◌≡◌ {A = ℕ} (cond (is_raise move.act) 1 0) 1 = ap {B = ℕ} (λ b. cond b 1 0) is in
+    let one : ◌≡◌ {A = ℕ} (cond (is_raising move.act) 1 0) 1 = ap {B = ℕ} (λ b. cond b 1 0) is in
     let same : move.street ≡ street = eqb-true move.street street here in
     let within : is_within_cap (Some caps) older street ≡ true = sym (ap (is_within_cap (Some caps) older) same) ∙ cap is in
     omega (arith, one_more move older street true here, one, room caps older street first within)
@@ -121,7 +121,7 @@ within : (rules : Rules) (setup : Setup) (caps : Option (List ℕ)) → rules.ca
 within rules setup None is moves suits = tt
 within rules setup (Some caps) is [] suits = λ street first. omega arith
 within rules setup (Some caps) is (move ∷ older) suits = λ street first.
-    within_more caps move older street (λ raise. sym (ap (λ c. is_within_cap c older move.street) is) ∙ suits.0.caps raise) (within rules setup (Some caps) is older suits.1 street first) first (move.street == street) (is_raise move.act) refl refl
+    within_more caps move older street (λ raise. sym (ap (λ c. is_within_cap c older move.street) is) ∙ suits.0.caps raise) (within rules setup (Some caps) is older suits.1 street first) first (move.street == street) (is_raising move.act) refl refl
 
 -- what no move is
 none_more : (p : TracedMove → Bool) (setup : Setup) (move : Move) (older : List Move) → list_any p (traced_moves setup older) ≡ false → p (traced_move setup move older) ≡ false → list_any p (traced_moves setup (move ∷ older)) ≡ false
@@ -136,13 +136,13 @@ none_closed : (rules : Rules) (setup : Setup) → rules.reopen ≡ reopens.Full 
 none_closed rules setup full [] suits = refl
 none_closed rules setup full (move ∷ older) suits =
     none_more (λ m. m.closed) setup move older (none_closed rules setup full older suits.1)
-    (both_not (is_raise move.act) (is_closed setup older move.street move.seat move.to) (λ raise. suits.0.reopens raise full))
+    (both_not (is_raising move.act) (is_closed setup older move.street move.seat move.to) (λ raise. suits.0.reopens raise full))
 
 none_free : (rules : Rules) (setup : Setup) → rules.free_fold ≡ false → (moves : List Move) → AreSuited rules setup moves → list_any is_free_fold (traced_moves setup moves) ≡ false
 none_free rules setup paid [] suits = refl
 none_free rules setup paid (move ∷ older) suits =
     none_more is_free_fold setup move older (none_free rules setup paid older suits.1)
-    (both_not (Rattle.play_event.specs.Past.is_fold move.act) (nat_le (current_bet setup older move.street) move.from) (λ fold. suits.0.folds fold paid))
+    (both_not (Rattle.play_event.specs.Past.is_folding move.act) (nat_le (current_bet setup older move.street) move.from) (λ fold. suits.0.folds fold paid))
 
 -- a play that is legal under rules suits them
 pub suits_own : (setup : Setup) (rules : Rules) (script : List Said) → IsPlayed setup rules script → SuitsRules rules (core_after setup script)

@@ -19,7 +19,7 @@ use Rattle.play_event.specs.Places.{Place, is_same_owner, is_in_group}
 use Rattle.play_event.specs.Table.{places_of}
 use Rattle.play_event.specs.Trace.{is_shown, TracedPlace, traced_place}
 use Rattle.play_event.specs.Scripts.{past_of, past_at_end}
-use Rattle.card_set.specs.Known.{is_unknown}
+use Rattle.card_set.specs.Known.{hides_card}
 use Rattle.play_event.specs.Laws.{AreLegal, IsAmong}
 use Rattle.play_event.specs.TraceCore.{TraceCore, core_of, core_after}
 use Rattle.play_event.specs.PlayedScript.{IsPlayed}
@@ -71,8 +71,8 @@ none_traced q (first ∷ rest) none = or_from (q (traced_place first)) (list_any
 
 -- the cards of a trace, for each seat and street of its hand
 record HasFewCards (setup : Setup) (trace : TraceCore) : Type 0 where
-  board_known : list_any (λ place. is_same_owner place.owner None && is_unknown place.slot) trace.places ≡ false
-  shown_known : (seat : ℕ) → 1 ≤ seat → seat ≤ setup.stacks.seats → list_any (λ other. other == seat) trace.shown ≡ true → list_any is_unknown (held_slots trace.places seat) ≡ false
+  board_known : list_any (λ place. is_same_owner place.owner None && hides_card place.slot) trace.places ≡ false
+  shown_known : (seat : ℕ) → 1 ≤ seat → seat ≤ setup.stacks.seats → list_any (λ other. other == seat) trace.shown ≡ true → list_any hides_card (held_slots trace.places seat) ≡ false
   dealt_few : (seat street : ℕ) → 1 ≤ seat → seat ≤ setup.stacks.seats → 1 ≤ street → street ≤ street_count setup.code → length (dealt_slots trace.places (Some seat) street) ≤ 7
   board_few : (street : ℕ) → 1 ≤ street → street ≤ street_count setup.code → length (dealt_slots trace.places None street) ≤ 7
   discards_few : (seat street : ℕ) → 1 ≤ seat → seat ≤ setup.stacks.seats → 1 ≤ street → street ≤ street_count setup.code → length (discarded_slots trace.places seat street) ≤ 7
@@ -87,14 +87,14 @@ few_cards setup rules events legal =
     let law = legal_past setup rules events legal in
     let done = (legal_done setup rules events legal).done in
     record {
-      board_known = none_traced (λ place. is_same_owner place.owner None && is_unknown place.slot) finals (λ place among.
-          false_from_ne_true (is_same_owner place.owner None && is_unknown place.slot) (λ both.
-          let parts = and_parts (is_same_owner place.owner None) (is_unknown place.slot) both in
-          both_ways (is_unknown place.slot) (board_known setup rules events legal place (is_final setup placed count place among).among (is_same_owner-true place.owner None parts.0)) parts.1));
+      board_known = none_traced (λ place. is_same_owner place.owner None && hides_card place.slot) finals (λ place among.
+          false_from_ne_true (is_same_owner place.owner None && hides_card place.slot) (λ both.
+          let parts = and_parts (is_same_owner place.owner None) (hides_card place.slot) both in
+          both_ways (hides_card place.slot) (board_known setup rules events legal place (is_final setup placed count place among).among (is_same_owner-true place.owner None parts.0)) parts.1));
       shown_known = λ seat least most shown.
           let is : is_shown setup script seat ≡ true = sym (is_in (is_shown setup script) 1 setup.stacks.seats seat least (omega (arith, most))) ∙ shown in
           let parts = shown_parts setup script seat is in
-          ap (list_any is_unknown) (discarded_same finals seat 0 ∙ held_script setup rules events seat legal least most parts.live) ∙ (sym (any_held seat placed) ∙ parts.known);
+          ap (list_any hides_card) (discarded_same finals seat 0 ∙ held_script setup rules events seat legal least most parts.live) ∙ (sym (any_held seat placed) ∙ parts.known);
       dealt_few = λ seat street least most some within.
           omega (
             arith,

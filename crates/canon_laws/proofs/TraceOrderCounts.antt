@@ -8,7 +8,7 @@ use Rattle.card_set.specs.declared.card.Slot.TheVariants as slots
 use Rattle.play_event.specs.declared.setup.Setup.{Setup}
 use Rattle.play_event.specs.declared.setup.Rules.{Rules}
 use Rattle.play_event.specs.Said.{Said}
-use Rattle.play_event.specs.Past.{Past, Resolved, Move, is_fold}
+use Rattle.play_event.specs.Past.{Past, Resolved, Move, is_folding}
 use Rattle.play_event.specs.Due.{turn}
 use Rattle.play_event.specs.Places.{Place, is_same_owner, is_in_group, is_up, is_past_deck, places_dealt, after_deal, after_fold, group_of}
 use Rattle.play_event.specs.NameMatching.{after_discard, after_show}
@@ -55,7 +55,7 @@ owned_step setup before at _ (boards cards due some few free) owned = owned_deal
 owned_step setup before at _ (mucks seat may) owned = owned
 owned_step setup before at _ (shows seat cards may free) owned = owned_sure setup (places_of setup.code before) (after_show setup.code seat cards (places_of setup.code before)) (show_sure setup.code seat cards (places_of setup.code before)) owned
 owned_step setup before at _ (discards seat cards no_deal draw next few free held) owned = owned_sure setup (places_of setup.code before) (after_discard at seat cards (places_of setup.code before)) (discard_sure at seat cards (places_of setup.code before)) owned
-owned_step setup before at _ (moves played no_deal no_draw on) owned = by_fold (is_fold played.act)
+owned_step setup before at _ (moves played no_deal no_draw on) owned = by_fold (is_folding played.act)
   where
     by_fold : (b : Bool) → AreOwned setup (if b then after_fold played.seat (places_of setup.code before) else places_of setup.code before)
     by_fold true = owned_sure setup (places_of setup.code before) (after_fold played.seat (places_of setup.code before)) (fold_sure played.seat (length (places_of setup.code before)) (places_of setup.code before)) owned

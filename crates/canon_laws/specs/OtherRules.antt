@@ -1,7 +1,7 @@
 -- When a play that is legal under the rules of one notation suits those of another.
 use Rattle.std.specs.Prelude.{◌≡◌, ℕ, ◌-◌, ◌≤◌, Bool, false, ◌&&◌, nat_le, slice_index, IfSome}
 use Rattle.std.specs.List.{list_any}
-use Rattle.play_event.specs.Past.{is_fold}
+use Rattle.play_event.specs.Past.{is_folding}
 use Rattle.play_event.specs.Raising.{raises_on}
 use Rattle.play_event.specs.Trace.{TracedMove}
 use Rattle.play_event.specs.declared.setup.Reopen.TheVariants as reopens
@@ -11,7 +11,7 @@ use Rattle.play_event.specs.TraceCore.{TraceCore}
 
 -- a fold of a seat that owes nothing
 abbrev pub is_free_fold : TracedMove → Bool
-is_free_fold move = is_fold move.act && nat_le move.price move.from
+is_free_fold move = is_folding move.act && nat_le move.price move.from
 
 -- A play suits rules: if only full raises reopen the betting, no raise is made where it would be
 -- closed; if a fold needs a bet to fold to, each fold has one; and if there are caps, the raises of

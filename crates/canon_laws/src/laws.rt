@@ -6,7 +6,7 @@ ghost use Rattle.play_event.specs.declared.setup.Rules.{Rules};
 ghost use Rattle.play_event.specs.declared.setup.Setup.{Setup};
 ghost use Rattle.play_event.specs.TraceCore.{core_after};
 ghost use Rattle.play_event.specs.Tidy.{IsTidy};
-ghost use Rattle.play_event.specs.PlayedScript.{IsPlayed, is_move};
+ghost use Rattle.play_event.specs.PlayedScript.{IsPlayed, is_move_event};
 ghost use Rattle.play_event.specs.declared.hand_limits.TheConstants.{MOST_MOVES};
 ghost use Rattle.play_event.specs.CanonScript.{canon_of};
 ghost use Rattle.canon_laws.specs.Confluence.{IsConfluent};
@@ -35,7 +35,7 @@ pub fn law_of_canonical_scripts()
 /// The trace of a script that is played to its end is tidy, if its moves are within the limit.
 pub fn law_of_tidy_traces()
     ensures tidy { (setup : Setup) (rules : Rules) (script : List Said)
-        → IsPlayed setup rules script → count_by is_move script ≤ MOST_MOVES
+        → IsPlayed setup rules script → count_by is_move_event script ≤ MOST_MOVES
         → IsTidy (core_after setup script) }
 {}
 

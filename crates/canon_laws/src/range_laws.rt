@@ -3,7 +3,7 @@
 ghost use Rattle.std.specs.Prelude.{◌≡◌, ◌≤◌, List, count_by};
 ghost use Rattle.std.specs.List.{AllByRecursion};
 ghost use Rattle.play_event.specs.CanonScript.{canon_of};
-ghost use Rattle.play_event.specs.PlayedScript.{IsPlayed, IsWithinLimits, is_move};
+ghost use Rattle.play_event.specs.PlayedScript.{IsPlayed, IsWithinLimits, is_move_event};
 ghost use Rattle.play_event.specs.TraceCore.{core_after};
 ghost use Rattle.play_event.specs.declared.hand_limits.TheConstants.{MOST_MOVES};
 ghost use Rattle.play_event.specs.Said.{Said};
@@ -20,7 +20,7 @@ pub fn law_of_ranges()
         → IsValid setup → IsPlayed setup rules script
         → AllByRecursion (IsInRange setup.stacks.seats) (canon_of setup script) }
     ensures within { (setup : Setup) (rules : Rules) (script : List Said)
-        → IsPlayed setup rules script → count_by is_move script ≤ MOST_MOVES
+        → IsPlayed setup rules script → count_by is_move_event script ≤ MOST_MOVES
         → IsWithinLimits (canon_of setup script) }
 {}
 
@@ -28,7 +28,7 @@ pub fn law_of_ranges()
 pub fn law_of_move_counts()
     ensures { (setup : Setup) (rules : Rules) (script : List Said)
         → IsPlayed setup rules script
-        → count_by is_move (canon_of setup script) ≡ count_by is_move script }
+        → count_by is_move_event (canon_of setup script) ≡ count_by is_move_event script }
 {}
 
 /// A play that is legal under some rules suits them: if only full raises reopen the betting, no

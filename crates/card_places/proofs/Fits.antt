@@ -19,7 +19,7 @@ use Rattle.card_places.specs.Drawn.{named_at}
 use Rattle.play_laws.specs.Dues.{IsDueWithin}
 use Rattle.card_places.specs.DueStreet.{due_street}
 use Rattle.card_places.specs.Placed.{placed}
-use Rattle.card_places.specs.Refusals.{owed_of, owed_in, board_owed_in, illegal_hole_deal_on, illegal_board_deal_on, illegal_hole_deal, illegal_board_deal}
+use Rattle.card_places.specs.Refusals.{owed_of, owed_in, board_owed_in, hole_deal_reason_on, board_deal_reason_on, hole_deal_reason, board_deal_reason}
 use Rattle.card_places.specs.Room.{is_seat_of, is_street, hole_most, most_of, AreNamedWithin, IsOwed}
 use Rattle.card_places.proofs.Rooms.{seat_parts, street_parts}
 use Rattle.card_set.proofs.Tests.{first_holds}
@@ -47,7 +47,7 @@ street_is code on first last = and_from (nat_le 1 on) (nat_le on (street_count c
 abbrev pub IsOwedIn : CardState → Option ℕ → ℕ → ℕ → Type 0
 IsOwedIn t owner street count = IsOwed t.table.code t.seats t.draws (placed t.places) owner street count
 
-owed_on : (t : CardState) (live : LiveRow) (on seat : ℕ) (cards : List Slot) → 1 ≤ on → on ≤ street_count t.table.code → illegal_hole_deal_on t live on seat cards ≡ None → IsOwedIn t (Some seat) on (length cards)
+owed_on : (t : CardState) (live : LiveRow) (on seat : ℕ) (cards : List Slot) → 1 ≤ on → on ≤ street_count t.table.code → hole_deal_reason_on t live on seat cards ≡ None → IsOwedIn t (Some seat) on (length cards)
 owed_on t live on seat cards first last is =
     let owed : ℕ = owed_in t live on seat in
     let parts = count_at (length cards == 0) (nat_lt owed (length cards)) (not (is_seat_of t.seats seat) || (owed == 0)) (has_taken_card t.table.code (placed t.places) on cards) is in
@@ -63,11 +63,11 @@ by_kind : (b : Bool) (rest : Option Illegal) → (if b then rest else Some reaso
 by_kind true rest is = is
 by_kind false rest is = absurd cc
 
-pub hole_owed : (t : CardState) (live : LiveRow) (due : Due) (on seat : ℕ) (cards : List Slot) → due_street due ≡ Some on → IsDueWithin (street_count t.table.code) due → illegal_hole_deal t live due seat cards ≡ None → IsOwedIn t (Some seat) on (length cards)
+pub hole_owed : (t : CardState) (live : LiveRow) (due : Due) (on seat : ℕ) (cards : List Slot) → due_street due ≡ Some on → IsDueWithin (street_count t.table.code) due → hole_deal_reason t live due seat cards ≡ None → IsOwedIn t (Some seat) on (length cards)
 hole_owed t live (dues.Deal at) on seat cards street within is =
     let same : at ≡ on = cc in
     subst (λ (s : ℕ). IsOwedIn t (Some seat) s (length cards)) same
-    (owed_on t live at seat cards within.0 within.1 (by_kind (nat_lt 0 (hole_cards_on t.table.code at)) (illegal_hole_deal_on t live at seat cards) is))
+    (owed_on t live at seat cards within.0 within.1 (by_kind (nat_lt 0 (hole_cards_on t.table.code at)) (hole_deal_reason_on t live at seat cards) is))
 hole_owed t live (dues.Draw at) on seat cards street within is =
     let same : at ≡ on = cc in
     subst (λ (s : ℕ). IsOwedIn t (Some seat) s (length cards)) same (owed_on t live at seat cards within.0 within.1 is)
@@ -76,7 +76,7 @@ hole_owed t live dues.Move on seat cards street within is = absurd cc
 hole_owed t live dues.Show on seat cards street within is = absurd cc
 hole_owed t live dues.Over on seat cards street within is = absurd cc
 
-board_owed_on : (t : CardState) (on : ℕ) (cards : List Slot) → 1 ≤ on → on ≤ street_count t.table.code → illegal_board_deal_on t on cards ≡ None → IsOwedIn t None on (length cards)
+board_owed_on : (t : CardState) (on : ℕ) (cards : List Slot) → 1 ≤ on → on ≤ street_count t.table.code → board_deal_reason_on t on cards ≡ None → IsOwedIn t None on (length cards)
 board_owed_on t on cards first last is =
     let owed : ℕ = board_owed_in t on in
     let parts = count_at (length cards == 0) (nat_lt owed (length cards)) false (has_taken_card t.table.code (placed t.places) on cards) is in
@@ -87,11 +87,11 @@ board_owed_on t on cards first last is =
       few = ltb-false owed (length cards) parts.2;
     }
 
-pub board_owed : (t : CardState) (due : Due) (on : ℕ) (cards : List Slot) → due_street due ≡ Some on → IsDueWithin (street_count t.table.code) due → illegal_board_deal t due cards ≡ None → IsOwedIn t None on (length cards)
+pub board_owed : (t : CardState) (due : Due) (on : ℕ) (cards : List Slot) → due_street due ≡ Some on → IsDueWithin (street_count t.table.code) due → board_deal_reason t due cards ≡ None → IsOwedIn t None on (length cards)
 board_owed t (dues.Deal at) on cards street within is =
     let same : at ≡ on = cc in
     subst (λ (s : ℕ). IsOwedIn t None s (length cards)) same
-    (board_owed_on t at cards within.0 within.1 (by_kind (nat_lt 0 (board_cards_on t.table.code at)) (illegal_board_deal_on t at cards) is))
+    (board_owed_on t at cards within.0 within.1 (by_kind (nat_lt 0 (board_cards_on t.table.code at)) (board_deal_reason_on t at cards) is))
 board_owed t (dues.Draw at) on cards street within is = absurd cc
 board_owed t dues.BringIn on cards street within is = absurd cc
 board_owed t dues.Move on cards street within is = absurd cc

@@ -5,7 +5,7 @@ use Rattle.card_set.proofs.Counting.{count_by-cons}
 use Rattle.card_set.specs.declared.card.Card.{Card}
 use Rattle.card_set.specs.declared.card.Slot.{Slot}
 use Rattle.card_set.specs.declared.card.Slot.TheVariants as slots
-use Rattle.card_set.specs.Known.{is_unknown, known_cards}
+use Rattle.card_set.specs.Known.{hides_card, known_among}
 use Rattle.play_event.specs.Places.{Place, is_same_owner, is_held_by, places_dealt, folded_place, gone_now, after_fold}
 use Rattle.play_event.specs.declared.code.Code.{Code}
 use Rattle.play_event.specs.NameMatching.{matched_card, after_matching, after_discard, after_show, discarded_now, is_named, unmatched_names, blanks_in, can_be_named, is_show_of_all, unknown_count}
@@ -89,7 +89,7 @@ names_fewer owner covers mark names others blanks (place ∷ rest) fewer = by_co
 
 pub discard_fewer : (owner : Option ℕ) (street seat : ℕ) (cards : List Slot) (placed : List Place) → count_by (is_held owner) (after_discard street seat cards placed) ≤ count_by (is_held owner) placed
 discard_fewer owner street seat cards placed =
-    names_fewer owner (is_held_by seat) (discarded_now street (length placed)) (known_cards cards) (unmatched_names (filter (is_held_by seat) placed) (known_cards cards)) (blanks_in cards) placed (discarded_fewer owner street (length placed))
+    names_fewer owner (is_held_by seat) (discarded_now street (length placed)) (known_among cards) (unmatched_names (filter (is_held_by seat) placed) (known_among cards)) (blanks_in cards) placed (discarded_fewer owner street (length placed))
 
 pub show_fewer : (owner : Option ℕ) (code : Code) (seat : ℕ) (cards : List Card) (placed : List Place) → count_by (is_held owner) (after_show code seat cards placed) ≤ count_by (is_held owner) placed
 show_fewer owner code seat cards placed =
@@ -99,26 +99,26 @@ show_fewer owner code seat cards placed =
 pub fold_fewer : (owner : Option ℕ) (seat : ℕ) (placed : List Place) → count_by (is_held owner) (after_fold seat placed) ≤ count_by (is_held owner) placed
 fold_fewer owner seat placed = map_fewer owner (folded_place seat (length placed)) placed (folded_fewer owner seat (length placed))
 
-unknown_is : (placed : List Place) → unknown_count placed ≡ count_by (λ place. is_unknown place.slot) placed
+unknown_is : (placed : List Place) → unknown_count placed ≡ count_by (λ place. hides_card place.slot) placed
 unknown_is [] = refl
-unknown_is (place ∷ rest) = omega (arith, count_by-cons (λ (p : Place). is_unknown p.slot) place rest, unknown_is rest, by_slot (is_unknown place.slot))
+unknown_is (place ∷ rest) = omega (arith, count_by-cons (λ (p : Place). hides_card p.slot) place rest, unknown_is rest, by_slot (hides_card place.slot))
   where
     by_slot : (b : Bool) → ◌≡◌ {A = ℕ} (if b then 1 else 0) (cond b 1 0)
     by_slot true = refl
     by_slot false = refl
 
-known_and_blank : (cards : List Slot) → length (known_cards cards) + blanks_in cards ≡ length cards
+known_and_blank : (cards : List Slot) → length (known_among cards) + blanks_in cards ≡ length cards
 known_and_blank [] = refl
-known_and_blank (slots.Known card ∷ rest) = omega (arith, count_by-cons is_unknown (slots.Known card) rest, known_and_blank rest)
-known_and_blank (slots.Unknown ∷ rest) = omega (arith, count_by-cons is_unknown slots.Unknown rest, known_and_blank rest)
+known_and_blank (slots.Known card ∷ rest) = omega (arith, count_by-cons hides_card (slots.Known card) rest, known_and_blank rest)
+known_and_blank (slots.Unknown ∷ rest) = omega (arith, count_by-cons hides_card slots.Unknown rest, known_and_blank rest)
 
 -- a discard whose names all find a place takes at least as many cards as it names
-pub discard_takes : (street seat : ℕ) (cards : List Slot) (placed : List Place) → has_no_place (filter (is_held_by seat) placed) (known_cards cards) (blanks_in cards) ≡ false → count_by (is_held_by seat) (after_discard street seat cards placed) + length cards ≤ count_by (is_held_by seat) placed
+pub discard_takes : (street seat : ℕ) (cards : List Slot) (placed : List Place) → has_no_place (filter (is_held_by seat) placed) (known_among cards) (blanks_in cards) ≡ false → count_by (is_held_by seat) (after_discard street seat cards placed) + length cards ≤ count_by (is_held_by seat) placed
 discard_takes street seat cards placed found =
     let held : List Place = filter (is_held_by seat) placed in
-    let names : List Card = known_cards cards in
+    let names : List Card = known_among cards in
     let others : List Card = unmatched_names held names in
     let blanks : ℕ = blanks_in cards in
-    let fits : length others + blanks ≤ count_by (λ (p : Place). is_unknown p.slot) held = ltb-false (count_by (λ (p : Place). is_unknown p.slot) held) (length others + blanks) found in
+    let fits : length others + blanks ≤ count_by (λ (p : Place). hides_card p.slot) held = ltb-false (count_by (λ (p : Place). hides_card p.slot) held) (length others + blanks) found in
     let taken = marks_least seat street (length placed) names others blanks placed (omega (arith, fits, unknown_is held)) in
     omega (arith, taken, names_least held names names (λ card is. is), known_and_blank cards)

@@ -4,7 +4,7 @@ use Rattle.card_set.proofs.Counting.{count_by-cons}
 use Rattle.card_set.specs.declared.card.Card.{Card}
 use Rattle.card_set.specs.declared.card.Slot.{Slot}
 use Rattle.card_set.specs.declared.card.Slot.TheVariants as slots
-use Rattle.card_set.specs.Known.{is_unknown}
+use Rattle.card_set.specs.Known.{hides_card}
 use Rattle.play_event.specs.Places.{Place, is_same_owner, is_held_by}
 use Rattle.play_event.specs.NameMatching.{matched_card, after_matching, discarded_now, is_named, is_known_and_named, named_count, unknown_count}
 
@@ -20,7 +20,7 @@ marks_least seat street count names others blanks (place ∷ rest) fits = by_hel
     more : (new : Place) (left : List Card) (n : ℕ) (k : ℕ) → cond (is_held_by seat new) 1 0 ≡ k → count_by (is_held_by seat) (new ∷ after_matching (is_held_by seat) (discarded_now street count) names left n rest) ≡ count_by (is_held_by seat) (after_matching (is_held_by seat) (discarded_now street count) names left n rest) + k
     more new left n k is = omega (arith, count_by-cons (is_held_by seat) new (after_matching (is_held_by seat) (discarded_now street count) names left n rest), is)
 
-    by_slot : (slot : Slot) (left : List Card) (n : ℕ) → ◌≡◌ {A = ℕ} (cond (is_held_by seat place) 1 0) 1 → length left + n ≤ (if is_unknown slot then 1 else 0) + unknown_count (filter (is_held_by seat) rest)
+    by_slot : (slot : Slot) (left : List Card) (n : ℕ) → ◌≡◌ {A = ℕ} (cond (is_held_by seat place) 1 0) 1 → length left + n ≤ (if hides_card slot then 1 else 0) + unknown_count (filter (is_held_by seat) rest)
         → ((left : List Card) (n : ℕ) → length left + n ≤ unknown_count (filter (is_held_by seat) rest) → count_by (is_held_by seat) (after_matching (is_held_by seat) (discarded_now street count) names left n rest) + named_count names (filter (is_held_by seat) rest) + length left + n ≤ count_by (is_held_by seat) rest)
         → count_by (is_held_by seat) (let found = matched_card (discarded_now street count) names slot left n place in found.place ∷ after_matching (is_held_by seat) (discarded_now street count) names found.others found.blanks rest) + ((if is_known_and_named names slot then 1 else 0) + named_count names (filter (is_held_by seat) rest)) + length left + n ≤ 1 + count_by (is_held_by seat) rest
     by_slot (slots.Known card) left n one less later = by_name (is_named card names)

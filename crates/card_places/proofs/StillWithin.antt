@@ -4,7 +4,7 @@ use Rattle.std.proofs.lemmas.List.Sums.{length-filter}
 use Rattle.card_set.specs.declared.card.Card.{Card}
 use Rattle.card_set.specs.declared.card.Slot.{Slot}
 use Rattle.play_event.specs.declared.code.Code.{Code}
-use Rattle.card_set.specs.Known.{known_cards}
+use Rattle.card_set.specs.Known.{known_among}
 use Rattle.play_event.specs.Places.{Place, is_in_group, is_held_by, after_fold}
 use Rattle.play_event.specs.NameMatching.{after_discard, after_show, discarded_now, unmatched_names, blanks_in, can_be_named, is_show_of_all}
 use Rattle.card_places.specs.Room.{IsWithin}
@@ -17,7 +17,7 @@ within_still code seats olds news same within owner street =
 
 pub discard_still : (street seat : ℕ) (cards : List Slot) (placed : List Place) → AreStill placed (after_discard street seat cards placed)
 discard_still street seat cards placed =
-    names_still (is_held_by seat) (discarded_now street (length placed)) (known_cards cards) (unmatched_names (filter (is_held_by seat) placed) (known_cards cards)) (blanks_in cards) placed (λ place. record { owner = refl; street = refl })
+    names_still (is_held_by seat) (discarded_now street (length placed)) (known_among cards) (unmatched_names (filter (is_held_by seat) placed) (known_among cards)) (blanks_in cards) placed (λ place. record { owner = refl; street = refl })
 
 pub show_still : (code : Code) (seat : ℕ) (cards : List Card) (placed : List Place) → AreStill placed (after_show code seat cards placed)
 show_still code seat cards placed =

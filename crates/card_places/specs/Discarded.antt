@@ -1,7 +1,7 @@
 -- What changes when a seat discards.
 use Rattle.std.specs.Prelude.{◌≡◌, ◌≢◌, ◌⊎◌, ℕ, ◌≤◌, true, List, filter, length}
 use Rattle.card_set.specs.declared.card.Slot.{Slot}
-use Rattle.card_set.specs.Known.{known_cards}
+use Rattle.card_set.specs.Known.{known_among}
 use Rattle.play_event.specs.declared.code.Code.{Code}
 use Rattle.play_event.specs.CardReasons.{has_no_place}
 use Rattle.play_event.specs.NameMatching.{after_discard, blanks_in}
@@ -18,7 +18,7 @@ pub record IsDiscardSearch (code : Code) (s : NamedCards) (placed : List Place) 
   pub after : searched code s placed ≡ after_discard on seat cards placed
   pub lacking :
       has_unplaced_name code s placed
-      ≡ has_no_place (filter (is_held_by seat) placed) (known_cards cards) (blanks_in cards)
+      ≡ has_no_place (filter (is_held_by seat) placed) (known_among cards) (blanks_in cards)
 
 -- a seat drew and discarded these cards, and nothing else changed
 pub record IsDiscarded (old new : CardState) (on seat : ℕ) (cards : List Slot) : Type 0 where

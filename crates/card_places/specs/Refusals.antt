@@ -2,7 +2,7 @@
 use Rattle.std.specs.Prelude.{ℕ, ◌-◌, Bool, false, ◌&&◌, ◌||◌, ◌==◌, nat_lt, not, if◌then◌else◌, List, length, filter, find, count_by, Option, Some, None, is_some}
 use Rattle.std.specs.Option.{option_map_or}
 use Rattle.chip_ledger.specs.Seat.{seats_of}
-use Rattle.card_set.specs.Known.{is_unknown, known_cards}
+use Rattle.card_set.specs.Known.{hides_card, known_among}
 use Rattle.std.specs.List.{list_any}
 use Rattle.play_event.specs.NameMatching.{after_discard, after_show, blanks_in, can_be_named, held_count, held_down_count, is_show_of_all}
 use Rattle.card_set.specs.declared.card.Card.{Card}
@@ -62,15 +62,15 @@ deal_chain wrong_seat owed count taken =
     else None
 
 -- why hole cards of the street may not be dealt to a seat
-abbrev pub illegal_hole_deal_on : CardState → LiveRow → ℕ → ℕ → List Slot → Option Illegal
-illegal_hole_deal_on state live street seat cards =
+abbrev pub hole_deal_reason_on : CardState → LiveRow → ℕ → ℕ → List Slot → Option Illegal
+hole_deal_reason_on state live street seat cards =
     let owed = owed_in state live street seat in
     deal_chain (not (is_seat_of state.seats seat) || (owed == 0)) owed (length cards)
     (has_taken_card state.table.code (placed state.places) street cards)
 
 -- why cards of the street may not be dealt to the board
-abbrev pub illegal_board_deal_on : CardState → ℕ → List Slot → Option Illegal
-illegal_board_deal_on state street cards =
+abbrev pub board_deal_reason_on : CardState → ℕ → List Slot → Option Illegal
+board_deal_reason_on state street cards =
     let owed = board_owed_in state street in
     if is_wrong_deal owed (length cards) then Some reasons.WrongCount
     else if has_taken_card state.table.code (placed state.places) street cards
@@ -78,29 +78,29 @@ illegal_board_deal_on state street cards =
     else None
 
 -- why hole cards may not be dealt now
-abbrev pub illegal_hole_deal : CardState → LiveRow → Due → ℕ → List Slot → Option Illegal
-illegal_hole_deal state live dues.Over seat cards = Some reasons.HandOver
-illegal_hole_deal state live (dues.Deal street) seat cards =
+abbrev pub hole_deal_reason : CardState → LiveRow → Due → ℕ → List Slot → Option Illegal
+hole_deal_reason state live dues.Over seat cards = Some reasons.HandOver
+hole_deal_reason state live (dues.Deal street) seat cards =
     if nat_lt 0 (hole_cards_on state.table.code street)
-    then illegal_hole_deal_on state live street seat cards
+    then hole_deal_reason_on state live street seat cards
     else Some reasons.WrongKind
-illegal_hole_deal state live (dues.Draw street) seat cards =
-    illegal_hole_deal_on state live street seat cards
-illegal_hole_deal state live dues.BringIn seat cards = Some reasons.WrongKind
-illegal_hole_deal state live dues.Move seat cards = Some reasons.WrongKind
-illegal_hole_deal state live dues.Show seat cards = Some reasons.WrongKind
+hole_deal_reason state live (dues.Draw street) seat cards =
+    hole_deal_reason_on state live street seat cards
+hole_deal_reason state live dues.BringIn seat cards = Some reasons.WrongKind
+hole_deal_reason state live dues.Move seat cards = Some reasons.WrongKind
+hole_deal_reason state live dues.Show seat cards = Some reasons.WrongKind
 
 -- why board cards may not be dealt now
-abbrev pub illegal_board_deal : CardState → Due → List Slot → Option Illegal
-illegal_board_deal state dues.Over cards = Some reasons.HandOver
-illegal_board_deal state (dues.Deal street) cards =
+abbrev pub board_deal_reason : CardState → Due → List Slot → Option Illegal
+board_deal_reason state dues.Over cards = Some reasons.HandOver
+board_deal_reason state (dues.Deal street) cards =
     if nat_lt 0 (board_cards_on state.table.code street)
-    then illegal_board_deal_on state street cards
+    then board_deal_reason_on state street cards
     else Some reasons.WrongKind
-illegal_board_deal state (dues.Draw street) cards = Some reasons.WrongKind
-illegal_board_deal state dues.BringIn cards = Some reasons.WrongKind
-illegal_board_deal state dues.Move cards = Some reasons.WrongKind
-illegal_board_deal state dues.Show cards = Some reasons.WrongKind
+board_deal_reason state (dues.Draw street) cards = Some reasons.WrongKind
+board_deal_reason state dues.BringIn cards = Some reasons.WrongKind
+board_deal_reason state dues.Move cards = Some reasons.WrongKind
+board_deal_reason state dues.Show cards = Some reasons.WrongKind
 
 -- a live seat has not drawn on the street
 abbrev pub has_to_draw : CardState → LiveRow → ℕ → ℕ → Bool
@@ -125,24 +125,24 @@ discard_chain next held count taken lacking =
     else None
 
 -- why a seat may not discard these cards on the street
-abbrev pub illegal_discard_on : CardState → LiveRow → ℕ → ℕ → List Slot → Option Illegal
-illegal_discard_on state live street seat cards =
+abbrev pub discard_reason_on : CardState → LiveRow → ℕ → ℕ → List Slot → Option Illegal
+discard_reason_on state live street seat cards =
     discard_chain (is_next_in state live street seat) (held_count (placed state.places) seat)
     (length cards)
     (has_misplaced_card state.table.code (placed state.places)
     (after_discard street seat cards (placed state.places)))
-    (has_no_place (filter (is_held_by seat) (placed state.places)) (known_cards cards)
+    (has_no_place (filter (is_held_by seat) (placed state.places)) (known_among cards)
     (blanks_in cards))
 
 -- why a seat may not discard these cards now
-abbrev pub illegal_discard : CardState → LiveRow → Due → ℕ → List Slot → Option Illegal
-illegal_discard state live dues.Over seat cards = Some reasons.HandOver
-illegal_discard state live (dues.Draw street) seat cards =
-    illegal_discard_on state live street seat cards
-illegal_discard state live (dues.Deal street) seat cards = Some reasons.WrongKind
-illegal_discard state live dues.BringIn seat cards = Some reasons.WrongKind
-illegal_discard state live dues.Move seat cards = Some reasons.WrongKind
-illegal_discard state live dues.Show seat cards = Some reasons.WrongKind
+abbrev pub discard_reason : CardState → LiveRow → Due → ℕ → List Slot → Option Illegal
+discard_reason state live dues.Over seat cards = Some reasons.HandOver
+discard_reason state live (dues.Draw street) seat cards =
+    discard_reason_on state live street seat cards
+discard_reason state live (dues.Deal street) seat cards = Some reasons.WrongKind
+discard_reason state live dues.BringIn seat cards = Some reasons.WrongKind
+discard_reason state live dues.Move seat cards = Some reasons.WrongKind
+discard_reason state live dues.Show seat cards = Some reasons.WrongKind
 
 -- a seat may show or muck: it is live, and has done neither
 abbrev pub may_show_in : CardState → LiveRow → ℕ → Bool
@@ -152,11 +152,11 @@ may_show_in state live seat =
 
 -- a show may have `count` cards: all that the seat holds, or only its down-cards if its up-cards
 -- are known
-abbrev pub may_show_many : Code → List Place → ℕ → ℕ → Bool
-may_show_many code placed seat count =
+abbrev pub is_legal_show_count : Code → List Place → ℕ → ℕ → Bool
+is_legal_show_count code placed seat count =
     (count == held_count placed seat)
     || ((count == held_down_count code placed seat)
-    && not (list_any is_unknown (up_slots code placed seat)))
+    && not (list_any hides_card (up_slots code placed seat)))
 
 -- the reasons against a show, in their order
 abbrev pub show_chain : (may many taken others : Bool) → Option Illegal
@@ -168,10 +168,10 @@ show_chain may many taken others =
     else None
 
 -- why a seat may not show these cards, when a show is due
-abbrev pub illegal_show_on : CardState → LiveRow → ℕ → List Card → Option Illegal
-illegal_show_on state live seat cards =
+abbrev pub show_reason_on : CardState → LiveRow → ℕ → List Card → Option Illegal
+show_reason_on state live seat cards =
     show_chain (may_show_in state live seat)
-    (may_show_many state.table.code (placed state.places) seat (length cards))
+    (is_legal_show_count state.table.code (placed state.places) seat (length cards))
     (has_misplaced_card state.table.code (placed state.places)
     (after_show state.table.code seat cards (placed state.places)))
     (is_show_of_others
@@ -180,30 +180,30 @@ illegal_show_on state live seat cards =
     cards)
 
 -- why a seat may not show these cards now; `settled` says whether no more betting is possible
-abbrev pub illegal_show : CardState → LiveRow → Due → Bool → ℕ → List Card → Option Illegal
-illegal_show state live dues.Over settled seat cards =
-    if may_show_in state live seat then illegal_show_on state live seat cards
+abbrev pub show_reason : CardState → LiveRow → Due → Bool → ℕ → List Card → Option Illegal
+show_reason state live dues.Over settled seat cards =
+    if may_show_in state live seat then show_reason_on state live seat cards
     else Some reasons.HandOver
-illegal_show state live dues.Show settled seat cards = illegal_show_on state live seat cards
-illegal_show state live (dues.Deal street) settled seat cards =
-    if settled then illegal_show_on state live seat cards else Some reasons.WrongKind
-illegal_show state live (dues.Draw street) settled seat cards =
-    if settled then illegal_show_on state live seat cards else Some reasons.WrongKind
-illegal_show state live dues.BringIn settled seat cards =
-    if settled then illegal_show_on state live seat cards else Some reasons.WrongKind
-illegal_show state live dues.Move settled seat cards =
-    if settled then illegal_show_on state live seat cards else Some reasons.WrongKind
+show_reason state live dues.Show settled seat cards = show_reason_on state live seat cards
+show_reason state live (dues.Deal street) settled seat cards =
+    if settled then show_reason_on state live seat cards else Some reasons.WrongKind
+show_reason state live (dues.Draw street) settled seat cards =
+    if settled then show_reason_on state live seat cards else Some reasons.WrongKind
+show_reason state live dues.BringIn settled seat cards =
+    if settled then show_reason_on state live seat cards else Some reasons.WrongKind
+show_reason state live dues.Move settled seat cards =
+    if settled then show_reason_on state live seat cards else Some reasons.WrongKind
 
 -- why a seat may not muck now
-abbrev pub illegal_muck : CardState → LiveRow → Due → ℕ → Option Illegal
-illegal_muck state live dues.Over seat =
+abbrev pub muck_reason : CardState → LiveRow → Due → ℕ → Option Illegal
+muck_reason state live dues.Over seat =
     if may_show_in state live seat then None else Some reasons.HandOver
-illegal_muck state live dues.Show seat = if may_show_in state live seat then None
+muck_reason state live dues.Show seat = if may_show_in state live seat then None
     else Some reasons.WrongSeat
-illegal_muck state live (dues.Deal street) seat = Some reasons.WrongKind
-illegal_muck state live (dues.Draw street) seat = Some reasons.WrongKind
-illegal_muck state live dues.BringIn seat = Some reasons.WrongKind
-illegal_muck state live dues.Move seat = Some reasons.WrongKind
+muck_reason state live (dues.Deal street) seat = Some reasons.WrongKind
+muck_reason state live (dues.Draw street) seat = Some reasons.WrongKind
+muck_reason state live dues.BringIn seat = Some reasons.WrongKind
+muck_reason state live dues.Move seat = Some reasons.WrongKind
 
 -- a live seat is owed hole cards of the street
 abbrev pub is_owed_deal_in : CardState → LiveRow → ℕ → ℕ → Bool

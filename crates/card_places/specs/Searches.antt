@@ -1,7 +1,7 @@
 -- What the named cards of a discard or a show make of the places.
 use Rattle.std.specs.Prelude.{ℕ, ◌+◌, Bool, nat_lt, List, length, count_by, drop}
 use Rattle.std.specs.List.{list_any}
-use Rattle.card_set.specs.Known.{is_unknown}
+use Rattle.card_set.specs.Known.{hides_card}
 use Rattle.card_set.specs.Row.{cards_of}
 use Rattle.play_event.specs.declared.code.Code.{Code}
 use Rattle.play_event.specs.CardReasons.{is_left_out}
@@ -25,7 +25,7 @@ searched code s places = search_from code s 0 s.blanks places
 -- more names and blanks need an unknown place than there are
 abbrev pub has_unplaced_name : Code → NamedCards → List Place → Bool
 has_unplaced_name code s places =
-    nat_lt (count_by (λ place. is_unknown place.slot) (covered code s.seat.number s.all places))
+    nat_lt (count_by (λ place. hides_card place.slot) (covered code s.seat.number s.all places))
     (length (cards_of s.others) + s.blanks)
 
 -- a known card that the show applies to is not among the names

@@ -24,7 +24,7 @@ impl OwnerCounts {
         let mut numbers = [0; 11];
         for card in places.as_slice() {
             if card.street == street {
-                numbers[owner_index(card.owner)] += 1;
+                numbers[to_index(card.owner)] += 1;
             }
         }
         OwnerCounts { numbers }
@@ -34,12 +34,12 @@ impl OwnerCounts {
     pub fn of(&self, owner: Option<Seat>) -> u8
         ensures { result ≡ count_of self.now.numbers (seat_said owner) }
     {
-        self.numbers[owner_index(owner)]
+        self.numbers[to_index(owner)]
     }
 }
 
 // The index of the owner's count.
-fn owner_index(owner: Option<Seat>) -> usize
+fn to_index(owner: Option<Seat>) -> usize
     ensures index { result ≡ counted.owner_index (seat_said owner) }
     ensures most { result ≤ 10 }
 {

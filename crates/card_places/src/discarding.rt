@@ -10,7 +10,7 @@ use crate::deal_table::DealTable;
 use crate::dealt_cards::DealtCards;
 use crate::misplacing::is_misplacing;
 use crate::names::blanks;
-use crate::naming::has_unplaced_name;
+use crate::naming::lacks_unknown_places;
 use crate::search::{NamedCards, apply_names, named_cards};
 use card_set::SlotRow;
 use chip_ledger::{LiveRow, Seat};
@@ -26,9 +26,9 @@ impl CardState {
         cards: &SlotRow,
     ) -> Result<(), Illegal>
         requires street { on ≤ 5 }
-        ensures right { OnOk result (why.illegal_discard_on self.old live.now on seat.number
+        ensures right { OnOk result (why.discard_reason_on self.old live.now on seat.number
             (slots_of cards.now) ≡ None) }
-        ensures wrong { IfErr result (λ reason. why.illegal_discard_on self.old live.now on
+        ensures wrong { IfErr result (λ reason. why.discard_reason_on self.old live.now on
             seat.number (slots_of cards.now) ≡ Some reason) }
         ensures discarded { OnOk result
             (IsDiscarded self.old self.new on seat.number (slots_of cards.now)) }
@@ -58,7 +58,7 @@ impl CardState {
     ) -> Option<Illegal>
         requires { IsDiscardSearch self.now.table.code search.now (placed self.now.places) on
             seat.number (slots_of cards.now) }
-        ensures { result ≡ why.illegal_discard_on self.now live.now on seat.number
+        ensures { result ≡ why.discard_reason_on self.now live.now on seat.number
             (slots_of cards.now) }
     {
         let rows = self.places.as_slice();
@@ -68,7 +68,7 @@ impl CardState {
             Some(Illegal::WrongCount)
         } else if is_misplacing(&self.table, rows, search) {
             Some(Illegal::CardTaken)
-        } else if has_unplaced_name(&self.table, rows, search) {
+        } else if lacks_unknown_places(&self.table, rows, search) {
             Some(Illegal::NotHeld)
         } else {
             None

@@ -38,7 +38,7 @@ fn is_newly_misplaced(
     old: &DealtCard,
     new: &DealtCard,
 ) -> bool
-    ensures { result ≡ ((known.is_unknown old.now.slot && not (known.is_unknown new.now.slot))
+    ensures { result ≡ ((known.hides_card old.now.slot && not (known.hides_card new.now.slot))
         && taken.is_misplaced table.now.code
         (searched table.now.code search.now (map place_of rows.now)) (place_of new.now)) }
 {

@@ -12,7 +12,7 @@ use crate::names::left_out;
 use crate::search::{NamedCards, covers};
 
 /// Whether a known card that the event applies to is not named.
-pub fn has_left_out_card(table: &DealTable, rows: &[DealtCard], search: &NamedCards) -> bool
+pub fn omits_known_card(table: &DealTable, rows: &[DealtCard], search: &NamedCards) -> bool
     ensures { result
         ≡ searches.has_left_out_card table.now.code search.now (map place_of rows.now) }
 {
@@ -27,7 +27,7 @@ pub fn has_left_out_card(table: &DealTable, rows: &[DealtCard], search: &NamedCa
 }
 
 /// Whether more names and blanks need an unknown place than there are.
-pub fn has_unplaced_name(table: &DealTable, rows: &[DealtCard], search: &NamedCards) -> bool
+pub fn lacks_unknown_places(table: &DealTable, rows: &[DealtCard], search: &NamedCards) -> bool
     ensures { result
         ≡ searches.has_unplaced_name table.now.code search.now (map place_of rows.now) }
 {
@@ -37,7 +37,7 @@ pub fn has_unplaced_name(table: &DealTable, rows: &[DealtCard], search: &NamedCa
 // The number of unknown places that the event applies to.
 #[tactic(auto, using(crate::proofs::Covered::free_more))]
 fn free_count(table: &DealTable, rows: &[DealtCard], search: &NamedCards) -> usize
-    ensures value { result ≡ count_by (λ place. known.is_unknown place.slot)
+    ensures value { result ≡ count_by (λ place. known.hides_card place.slot)
         (covered table.now.code search.now.seat.number search.now.all (map place_of rows.now)) }
     ensures most { result ≤ length rows.now }
 {
@@ -53,7 +53,7 @@ fn free_count(table: &DealTable, rows: &[DealtCard], search: &NamedCards) -> usi
 // The event applies to the place, and its card is unknown.
 fn is_free(table: &DealTable, card: &DealtCard, search: &NamedCards) -> bool
     ensures { result ≡ (naming.can_be_named table.now.code search.now.seat.number search.now.all
-        (place_of card.now) && known.is_unknown card.now.slot) }
+        (place_of card.now) && known.hides_card card.now.slot) }
 {
     covers(table, card, search.seat, search.all) && card.slot.is_unknown()
 }

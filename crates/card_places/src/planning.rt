@@ -19,7 +19,7 @@ impl CardState {
         seat: Seat,
         cards: &[Slot],
     ) -> Option<Illegal>
-        ensures { result ≡ why.illegal_hole_deal self.now live.now due seat.number cards.now }
+        ensures { result ≡ why.hole_deal_reason self.now live.now due seat.number cards.now }
     {
         match due {
             Due::Over => Some(Illegal::HandOver),
@@ -44,7 +44,7 @@ impl CardState {
         seat: Seat,
         cards: &[Slot],
     ) -> Option<Illegal>
-        ensures { result ≡ why.illegal_hole_deal_on self.now live.now on seat.number cards.now }
+        ensures { result ≡ why.hole_deal_reason_on self.now live.now on seat.number cards.now }
     {
         if seat.number > self.seats {
             return Some(Illegal::WrongSeat);
@@ -63,7 +63,7 @@ impl CardState {
 
     /// Why the board may not be dealt these cards now.
     pub fn illegal_board_deal(&self, due: Due, cards: &[Slot]) -> Option<Illegal>
-        ensures { result ≡ why.illegal_board_deal self.now due cards.now }
+        ensures { result ≡ why.board_deal_reason self.now due cards.now }
     {
         match due {
             Due::Over => Some(Illegal::HandOver),
@@ -80,7 +80,7 @@ impl CardState {
 
     // Why the board may not be dealt these cards on the street.
     fn illegal_board_deal_on(&self, on: u8, cards: &[Slot]) -> Option<Illegal>
-        ensures { result ≡ why.illegal_board_deal_on self.now on cards.now }
+        ensures { result ≡ why.board_deal_reason_on self.now on cards.now }
     {
         let owed = self.board_owed(on);
         if is_wrong_deal(owed, cards.len()) {

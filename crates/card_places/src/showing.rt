@@ -16,7 +16,7 @@ use crate::deal_table::DealTable;
 use crate::dealt_card::DealtCard;
 use crate::dealt_cards::DealtCards;
 use crate::misplacing::is_misplacing;
-use crate::naming::{has_left_out_card, has_unplaced_name};
+use crate::naming::{lacks_unknown_places, omits_known_card};
 use crate::search::{NamedCards, apply_names, named_cards};
 use card_set::CardRow;
 use chip_ledger::{LiveRow, Seat};
@@ -25,9 +25,9 @@ use play_event::{Due, Illegal};
 impl CardState {
     /// Shows the cards if that is legal; otherwise changes nothing.
     pub fn show(&mut self, live: &LiveRow, seat: Seat, cards: &CardRow) -> Result<(), Illegal>
-        ensures right { OnOk result (why.illegal_show_on self.old live.now seat.number
+        ensures right { OnOk result (why.show_reason_on self.old live.now seat.number
             (cards_of cards.now) ≡ None) }
-        ensures wrong { IfErr result (λ reason. why.illegal_show_on self.old live.now seat.number
+        ensures wrong { IfErr result (λ reason. why.show_reason_on self.old live.now seat.number
             (cards_of cards.now) ≡ Some reason) }
         ensures shown { OnOk result (IsShown self.old self.new seat.number (cards_of cards.now)) }
         ensures unchanged { OnErr result (self.new ≡ self.old) }
@@ -55,7 +55,7 @@ impl CardState {
     ) -> Option<Illegal>
         requires { IsShowSearch self.now.table.code search.now (placed self.now.places)
             seat.number (cards_of cards.now) }
-        ensures value { result ≡ why.illegal_show_on self.now live.now seat.number
+        ensures value { result ≡ why.show_reason_on self.now live.now seat.number
             (cards_of cards.now) }
         ensures in_hand { IfNone result (seat.number ≤ self.now.seats) }
     {
@@ -66,8 +66,8 @@ impl CardState {
             Some(Illegal::WrongCount)
         } else if is_misplacing(&self.table, rows, search) {
             Some(Illegal::CardTaken)
-        } else if has_unplaced_name(&self.table, rows, search)
-            || has_left_out_card(&self.table, rows, search)
+        } else if lacks_unknown_places(&self.table, rows, search)
+            || omits_known_card(&self.table, rows, search)
         {
             Some(Illegal::NotHeld)
         } else {
@@ -77,7 +77,7 @@ impl CardState {
 
     // Whether a show may have `count` cards.
     fn may_show_many(&self, seat: Seat, count: u8) -> bool
-        ensures { result ≡ why.may_show_many self.now.table.code
+        ensures { result ≡ why.is_legal_show_count self.now.table.code
             (placed self.now.places) seat.number count }
     {
         let rows = self.places.as_slice();
@@ -95,10 +95,10 @@ impl CardState {
         seat: Seat,
     ) -> Option<Illegal>
         ensures show_is_due { IfNone result ((cards : List Card)
-            → why.illegal_show self.now live.now due settled seat.number cards
-            ≡ why.illegal_show_on self.now live.now seat.number cards) }
+            → why.show_reason self.now live.now due settled seat.number cards
+            ≡ why.show_reason_on self.now live.now seat.number cards) }
         ensures show_is_not_due { IfSome result (λ reason. (cards : List Card)
-            → why.illegal_show self.now live.now due settled seat.number cards ≡ Some reason) }
+            → why.show_reason self.now live.now due settled seat.number cards ≡ Some reason) }
     {
         match due {
             Due::Show => None,
@@ -121,7 +121,7 @@ impl CardState {
 
     /// Why the seat may not muck now.
     pub fn illegal_muck(&self, live: &LiveRow, due: Due, seat: Seat) -> Option<Illegal>
-        ensures wrong { result ≡ why.illegal_muck self.now live.now due seat.number }
+        ensures wrong { result ≡ why.muck_reason self.now live.now due seat.number }
         ensures in_hand { IfNone result (seat.number ≤ self.now.seats) }
     {
         match due {
@@ -186,7 +186,7 @@ fn is_held_down(table: &DealTable, card: &DealtCard, seat: Seat) -> bool
 
 // An up-card of the seat is unknown.
 fn hides_up(table: &DealTable, rows: &[DealtCard], seat: Seat) -> bool
-    ensures { result ≡ list_any known.is_unknown
+    ensures { result ≡ list_any known.hides_card
         (plain.up_slots table.now.code (map place_of rows.now) seat.number) }
 {
     for row in rows {

@@ -51,7 +51,7 @@ impl CardState {
     /// The known cards of the board, in the order of dealing.
     pub fn board(&self) -> CardRow
         ensures { cards_of result
-            ≡ known.known_cards (held.held_slots None (placed self.now.places)) }
+            ≡ known.known_among (held.held_slots None (placed self.now.places)) }
     {
         self.board_slots().known_cards()
     }
@@ -73,7 +73,7 @@ impl CardState {
     pub fn unknown(&self) -> LiveRow
         ensures seats { result.seats ≡ self.now.seats }
         ensures unknown { (seat : ℕ) → 1 ≤ seat → seat ≤ self.now.seats → flag_of result seat
-            ≡ list_any (λ place. is_held_by seat place && known.is_unknown place.slot)
+            ≡ list_any (λ place. is_held_by seat place && known.hides_card place.slot)
             (placed self.now.places) }
     {
         let mut row = LiveRow::new(self.seats);

@@ -55,12 +55,12 @@ pub fn card_at(index: u8) -> Card
     requires { index < 52 }
     ensures { deck_index result ≡ index }
 {
-    card_with_index(index)
+    card_from_index(index)
 }
 
 /// The card at an index of the deck; after the end of the deck its rank is the ace.
 #[tactic(auto, unfolding(crate::specs::Deck::card_with_index))]
-pub fn card_with_index(index: u8) -> Card
+pub fn card_from_index(index: u8) -> Card
     ensures card { result ≡ deck.card_with_index index }
     ensures index { index < 52 → deck_index result ≡ index }
 {

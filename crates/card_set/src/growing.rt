@@ -26,10 +26,7 @@ impl<T: Drop> TryPush<T> for Vec<T> {
         ensures capacity { vec_capacity self.old ≤ vec_capacity self.new }
         ensures succeeds { vec_len self.old < vec_capacity self.old → IsOk result }
     {
-        match self.push(item) {
-            Ok(()) => Ok(()),
-            Err(_) => Err(refused()),
-        }
+        self.push(item).map_err(|_| refused())
     }
 }
 
@@ -39,10 +36,7 @@ impl TryPush<char> for String {
         ensures bytes { string_bytes self.new ≡ (if is_ok result
             then string_bytes self.old ++ encode_utf8 item else string_bytes self.old) }
     {
-        match self.push(item) {
-            Ok(()) => Ok(()),
-            Err(_) => Err(refused()),
-        }
+        self.push(item).map_err(|_| refused())
     }
 }
 
@@ -62,10 +56,7 @@ impl<T: Copy> TryExtend<T> for Vec<T> {
         ensures succeeds { vec_len self.old + length items.now ≤ vec_capacity self.old
             → IsOk result }
     {
-        match self.extend_from_slice(items) {
-            Ok(()) => Ok(()),
-            Err(_) => Err(refused()),
-        }
+        self.extend_from_slice(items).map_err(|_| refused())
     }
 }
 
@@ -83,10 +74,7 @@ impl TryWrite for String {
         ensures bytes { string_bytes self.new ≡ (if is_ok result
             then string_bytes self.old ++ string.now else string_bytes self.old) }
     {
-        match self.push_str(string) {
-            Ok(()) => Ok(()),
-            Err(_) => Err(refused()),
-        }
+        self.push_str(string).map_err(|_| refused())
     }
 
     /// Adds what a value displays. Only a value whose text is known is taken, since another might
@@ -96,10 +84,7 @@ impl TryWrite for String {
         ensures bytes { OnOk result
             (AppendsText (string_bytes self.old) (string_bytes self.new) (D.output value)) }
     {
-        match self.write_fmt(value) {
-            Ok(()) => Ok(()),
-            Err(_) => Err(refused()),
-        }
+        self.write_fmt(value).map_err(|_| refused())
     }
 }
 
@@ -130,20 +115,14 @@ impl<K: Ord + Drop, V: Drop> TryInsert<K, V> for BTreeMap<K, V> {
 pub fn vec_from<T: Copy>(alloc: Global, items: &[T]) -> Result<Vec<T>, Memory>
     ensures items { IfOk result (λ list. list.items ≡ items.now) }
 {
-    match Vec::from_slice(alloc, items) {
-        Ok(list) => Ok(list),
-        Err(_) => Err(refused()),
-    }
+    Vec::from_slice(alloc, items).map_err(|_| refused())
 }
 
 /// A copy of a text.
 pub fn string_from(alloc: Global, text: &str) -> Result<String, Memory>
     ensures ok { IfOk result (λ copy. string_bytes copy ≡ text.now) }
 {
-    match String::from_str(alloc, text) {
-        Ok(copy) => Ok(copy),
-        Err(_) => Err(refused()),
-    }
+    String::from_str(alloc, text).map_err(|_| refused())
 }
 
 /// What a value displays. Only a value whose text is known is taken, since another might fail for a
@@ -153,10 +132,7 @@ pub fn displayed<D: Display + Drop>(alloc: Global, value: D) -> Result<String, M
     ensures ok { IfOk result (λ text.
         IfSome (D.output value) (λ bytes. string_bytes text ≡ bytes)) }
 {
-    match String::format(alloc, value) {
-        Ok(text) => Ok(text),
-        Err(_) => Err(refused()),
-    }
+    String::format(alloc, value).map_err(|_| refused())
 }
 
 /// A text by a format, as `format!`.

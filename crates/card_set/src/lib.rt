@@ -14,7 +14,7 @@ mod set;
 mod spelling;
 
 pub use card::{Card, Rank, Slot, Suit};
-pub use deck::{card_at, card_with_index, index_in_deck, rank_index, suit_index};
+pub use deck::{card_at, card_from_index, index_in_deck, rank_index, suit_index};
 pub use growing::{TryExtend, TryInsert, TryPush, TryWrite, displayed, string_from, vec_from};
 pub use memory::Memory;
 pub use pick::Pick;

@@ -13,10 +13,7 @@ pub fn list_with_room<T: Drop>(alloc: Global, count: usize) -> Result<Vec<T>, Me
     requires { count ≤ MOST_ROOM }
     ensures { IfOk result (λ list. list.items ≡ []) }
 {
-    match Vec::with_capacity(alloc, count) {
-        Ok(list) => Ok(list),
-        Err(_) => Err(refused()),
-    }
+    Vec::with_capacity(alloc, count).map_err(|_| refused())
 }
 
 /// A list of one item, as many times as there are items in `each`.
@@ -24,10 +21,7 @@ pub fn repeated_for<T: Copy, U>(alloc: Global, item: T, each: &[U]) -> Result<Ve
     ensures { IfOk result (λ list. ((copy : T) → T.is_clone item copy → copy ≡ item)
         → list.items ≡ replicate (length each.now) item) }
 {
-    match Vec::from_elem(alloc, item, each.len()) {
-        Ok(list) => Ok(list),
-        Err(_) => Err(refused()),
-    }
+    Vec::from_elem(alloc, item, each.len()).map_err(|_| refused())
 }
 
 /// Asks for room for this many more items in a list, and for no more. The list keeps its items.
@@ -35,20 +29,14 @@ pub fn reserve<T: Drop>(list: &mut Vec<T>, count: usize) -> Result<(), Memory>
     requires { count ≤ MOST_ROOM }
     ensures { list.new.items ≡ list.old.items }
 {
-    match list.try_reserve(count) {
-        Ok(()) => Ok(()),
-        Err(_) => Err(refused()),
-    }
+    list.try_reserve(count).map_err(|_| refused())
 }
 
 /// A value in a place of its own.
 pub fn boxed<T: Drop>(alloc: Global, value: T) -> Result<Box<T>, Memory>
     ensures { IfOk result (λ place. place.value ≡ value) }
 {
-    match Box::new(alloc, value) {
-        Ok(place) => Ok(place),
-        Err(_) => Err(refused()),
-    }
+    Box::new(alloc, value).map_err(|_| refused())
 }
 
 /// Asks for room for as many more bytes as there are in `bytes`, and for this many beside them.
@@ -60,8 +48,5 @@ pub fn reserve_for(list: &mut Vec<u8>, bytes: &[u8], more: usize) -> Result<(), 
     ensures ok { OnOk result
         (vec_len list.new + (length bytes.now + more) ≤ vec_capacity list.new) }
 {
-    match list.try_reserve(bytes.len() + more) {
-        Ok(()) => Ok(()),
-        Err(_) => Err(refused()),
-    }
+    list.try_reserve(bytes.len() + more).map_err(|_| refused())
 }

@@ -82,10 +82,8 @@ pub fn read_slots(bytes: &[u8]) -> Result<SlotRow, CardFault>
     }
     let mut row = SlotRow::new();
     for index in 0..bytes.len() / 2 {
-        match read_slot(bytes[2 * index], bytes[2 * index + 1]) {
-            Ok(slot) => row.push(slot),
-            Err(fault) => return Err(fault),
-        }
+        let slot = read_slot(bytes[2 * index], bytes[2 * index + 1])?;
+        row.push(slot);
     }
     Ok(row)
 }

@@ -21,7 +21,7 @@ use Rattle.card_places.specs.declared.card_state.CardState.{CardState}
 use Rattle.card_places.specs.Dealt.{IsDealt}
 use Rattle.card_places.specs.Discarded.{IsDiscarded}
 use Rattle.card_places.specs.DueStreet.{due_street}
-use Rattle.card_places.specs.Refusals.{illegal_board_deal, illegal_discard, illegal_hole_deal, illegal_muck, illegal_show}
+use Rattle.card_places.specs.Refusals.{board_deal_reason, discard_reason, hole_deal_reason, muck_reason, show_reason}
 use Rattle.card_places.specs.Shown.{IsMucked, IsShown}
 use Rattle.deal_core.specs.Answered.{AreOfOneHand, AsksNothing, IsAnswered, IsSettledAs, WhereNow}
 use Rattle.deal_core.specs.Standing.{StandsFor}
@@ -58,12 +58,12 @@ answered_by t next due live asks event (Err found) reason same none wrong stands
 -- hole cards
 pub hole_answered : (t next : CardState) (due : Due) (live : LiveRow) (seat : ℕ) (cards : List Slot) (kind : Kind) (answer : Result (Unit {0}) Illegal)
     → kind_said kind ≡ said.Hole seat cards
-    → OnOk answer (illegal_hole_deal t live due seat cards ≡ None) → IfErr answer (λ found. illegal_hole_deal t live due seat cards ≡ Some found)
+    → OnOk answer (hole_deal_reason t live due seat cards ≡ None) → IfErr answer (λ found. hole_deal_reason t live due seat cards ≡ Some found)
     → ((on : ℕ) → due_street due ≡ Some on → OnOk answer (IsDealt t next (Some seat) on cards)) → AreOfOneHand t next → OnErr answer (next ≡ t)
     → IsAnswered t next due live AsksNothing (kind_said kind) answer
 hole_answered t next due live seat cards kind answer is none wrong dealt hand unchanged =
     subst (λ (event : Said). IsAnswered t next due live AsksNothing event answer) (sym is)
-    (answered_by t next due live AsksNothing (said.Hole seat cards) answer (illegal_hole_deal t live due seat cards)
+    (answered_by t next due live AsksNothing (said.Hole seat cards) answer (hole_deal_reason t live due seat cards)
     (λ rules setup past now asked. why_hole t due live setup rules past seat cards now) none wrong
     (λ setup past now right. on_ok answer
     (λ dealt. hole_stands t next setup past (turn setup past).0 seat cards now.stands refl dealt)
@@ -72,12 +72,12 @@ hole_answered t next due live seat cards kind answer is none wrong dealt hand un
 -- cards of the board
 pub board_answered : (t next : CardState) (due : Due) (live : LiveRow) (cards : List Card) (kind : Kind) (answer : Result (Unit {0}) Illegal)
     → kind_said kind ≡ said.Board cards
-    → OnOk answer (illegal_board_deal t due (known_slots cards) ≡ None) → IfErr answer (λ found. illegal_board_deal t due (known_slots cards) ≡ Some found)
+    → OnOk answer (board_deal_reason t due (known_slots cards) ≡ None) → IfErr answer (λ found. board_deal_reason t due (known_slots cards) ≡ Some found)
     → ((on : ℕ) → due_street due ≡ Some on → OnOk answer (IsDealt t next None on (known_slots cards))) → AreOfOneHand t next → OnErr answer (next ≡ t)
     → IsAnswered t next due live AsksNothing (kind_said kind) answer
 board_answered t next due live cards kind answer is none wrong dealt hand unchanged =
     subst (λ (event : Said). IsAnswered t next due live AsksNothing event answer) (sym is)
-    (answered_by t next due live AsksNothing (said.Board cards) answer (illegal_board_deal t due (known_slots cards))
+    (answered_by t next due live AsksNothing (said.Board cards) answer (board_deal_reason t due (known_slots cards))
     (λ rules setup past now asked. why_board t due live setup rules past cards now) none wrong
     (λ setup past now right. on_ok answer
     (λ dealt. board_stands t next setup past (turn setup past).0 cards now.stands refl dealt)
@@ -86,12 +86,12 @@ board_answered t next due live cards kind answer is none wrong dealt hand unchan
 -- discards
 pub discard_answered : (t next : CardState) (due : Due) (live : LiveRow) (seat : ℕ) (cards : List Slot) (kind : Kind) (answer : Result (Unit {0}) Illegal)
     → kind_said kind ≡ said.Discard seat cards
-    → OnOk answer (illegal_discard t live due seat cards ≡ None) → IfErr answer (λ found. illegal_discard t live due seat cards ≡ Some found)
+    → OnOk answer (discard_reason t live due seat cards ≡ None) → IfErr answer (λ found. discard_reason t live due seat cards ≡ Some found)
     → ((on : ℕ) → due ≡ dues.Draw on → OnOk answer (IsDiscarded t next on seat cards)) → AreOfOneHand t next → OnErr answer (next ≡ t)
     → IsAnswered t next due live AsksNothing (kind_said kind) answer
 discard_answered t next due live seat cards kind answer is none wrong discarded hand unchanged =
     subst (λ (event : Said). IsAnswered t next due live AsksNothing event answer) (sym is)
-    (answered_by t next due live AsksNothing (said.Discard seat cards) answer (illegal_discard t live due seat cards)
+    (answered_by t next due live AsksNothing (said.Discard seat cards) answer (discard_reason t live due seat cards)
     (λ rules setup past now asked. why_discard t due live setup rules past seat cards now) none wrong
     (λ setup past now right.
     let drawing = discard_turn t due live setup past seat cards now right in
@@ -102,23 +102,23 @@ discard_answered t next due live seat cards kind answer is none wrong discarded 
 -- shows
 pub show_answered : (t next : CardState) (due : Due) (live : LiveRow) (settled : Bool) (seat : ℕ) (cards : List Card) (kind : Kind) (answer : Result (Unit {0}) Illegal)
     → kind_said kind ≡ said.Show seat cards
-    → OnOk answer (illegal_show t live due settled seat cards ≡ None) → IfErr answer (λ found. illegal_show t live due settled seat cards ≡ Some found)
+    → OnOk answer (show_reason t live due settled seat cards ≡ None) → IfErr answer (λ found. show_reason t live due settled seat cards ≡ Some found)
     → OnOk answer (IsShown t next seat cards) → AreOfOneHand t next → OnErr answer (next ≡ t)
     → IsAnswered t next due live (IsSettledAs settled) (kind_said kind) answer
 show_answered t next due live settled seat cards kind answer is none wrong shown hand unchanged =
     subst (λ (event : Said). IsAnswered t next due live (IsSettledAs settled) event answer) (sym is)
-    (answered_by t next due live (IsSettledAs settled) (said.Show seat cards) answer (illegal_show t live due settled seat cards)
+    (answered_by t next due live (IsSettledAs settled) (said.Show seat cards) answer (show_reason t live due settled seat cards)
     (λ rules setup past now asked. why_show t due live setup rules past settled seat cards now asked) none wrong
     (λ setup past now right. on_ok answer (λ shown. show_stands t next setup past seat cards now.stands shown) shown) hand unchanged)
 
 -- mucks
 pub muck_answered : (t next : CardState) (due : Due) (live : LiveRow) (settled : Bool) (seat : ℕ) (kind : Kind) (answer : Result (Unit {0}) Illegal)
     → kind_said kind ≡ said.Muck seat
-    → OnOk answer (illegal_muck t live due seat ≡ None) → IfErr answer (λ found. illegal_muck t live due seat ≡ Some found)
+    → OnOk answer (muck_reason t live due seat ≡ None) → IfErr answer (λ found. muck_reason t live due seat ≡ Some found)
     → OnOk answer (IsMucked t next seat) → AreOfOneHand t next → OnErr answer (next ≡ t)
     → IsAnswered t next due live (IsSettledAs settled) (kind_said kind) answer
 muck_answered t next due live settled seat kind answer is none wrong mucked hand unchanged =
     subst (λ (event : Said). IsAnswered t next due live (IsSettledAs settled) event answer) (sym is)
-    (answered_by t next due live (IsSettledAs settled) (said.Muck seat) answer (illegal_muck t live due seat)
+    (answered_by t next due live (IsSettledAs settled) (said.Muck seat) answer (muck_reason t live due seat)
     (λ rules setup past now asked. why_muck t due live setup rules past seat now) none wrong
     (λ setup past now right. on_ok answer (λ mucked. muck_stands t next setup past seat now.stands mucked) mucked) hand unchanged)

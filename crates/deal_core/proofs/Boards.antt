@@ -3,14 +3,14 @@ use Rattle.std.proofs.Common.{◌≡◌, ℕ, zero, suc, ◌+◌, Bool, true, fa
 use Rattle.std.proofs.lemmas.List.{map-append, append-nil}
 use Rattle.std.proofs.lemmas.List.Elements.{filter-append}
 use Rattle.std.proofs.lemmas.Bool.{and_parts}
-use Rattle.card_set.specs.Known.{known_cards, known_slots}
+use Rattle.card_set.specs.Known.{known_among, known_slots}
 use Rattle.card_set.specs.declared.card.Card.{Card}
 use Rattle.card_set.specs.declared.card.Slot.{Slot}
 use Rattle.card_set.specs.declared.card.Slot.TheVariants as slots
 use Rattle.card_set.proofs.Tests.{false_true}
 use Rattle.play_event.specs.declared.code.Code.{Code}
 use Rattle.play_event.specs.NameMatching.{matched_card, after_matching, discarded_now, is_named, unmatched_names, blanks_in, can_be_named, is_show_of_all}
-use Rattle.play_event.specs.Past.{Past, Dealt, Boarded, Moved, Discarded, Shown, Mucked, is_fold}
+use Rattle.play_event.specs.Past.{Past, Dealt, Boarded, Moved, Discarded, Shown, Mucked, is_folding}
 use Rattle.play_event.specs.Places.{Place, is_same_owner, is_in_group, is_held_by, is_past_deck, is_up, places_dealt, after_fold, folded_place, gone_now}
 use Rattle.play_event.specs.Table.{places_of}
 use Rattle.play_event.specs.Held.{is_held, held_slots}
@@ -97,14 +97,14 @@ board_held code (Boarded on cards ∷ before) =
     ∙ ap (λ (l : List Slot). held_slots None placed ++ l) (board_dealt on (is_past_deck code placed on) (count_by (is_in_group None on) placed) (length placed) (known_slots cards))
     ∙ ap (λ (l : List Slot). l ++ known_slots cards) (board_held code before)
     ∙ sym (map-append (λ (card : Card). slots.Known card) (board_cards before) cards)
-board_held code (Moved move ∷ before) = by_fold (is_fold move.act) (board_held code before)
+board_held code (Moved move ∷ before) = by_fold (is_folding move.act) (board_held code before)
   where
     by_fold : (b : Bool) → held_slots None (places_of code before) ≡ known_slots (board_cards before) → held_slots None (if b then after_fold move.seat (places_of code before) else places_of code before) ≡ known_slots (board_cards before)
     by_fold true later = fold_board move.seat (length (places_of code before)) (places_of code before) ∙ later
     by_fold false later = later
 board_held code (Discarded on seat cards ∷ before) =
     let placed = places_of code before in
-    names_board (is_held_by seat) (discarded_now on (length placed)) (known_cards cards) (unmatched_names (filter (is_held_by seat) placed) (known_cards cards)) (blanks_in cards) placed (held_seats seat) (λ place. refl)
+    names_board (is_held_by seat) (discarded_now on (length placed)) (known_among cards) (unmatched_names (filter (is_held_by seat) placed) (known_among cards)) (blanks_in cards) placed (held_seats seat) (λ place. refl)
     ∙ board_held code before
 board_held code (Shown on seat cards ∷ before) =
     let placed = places_of code before in

@@ -10,7 +10,7 @@ use Rattle.play_event.specs.Dealing.{has_drawn}
 use Rattle.play_event.specs.Due.{turn}
 use Rattle.card_places.specs.declared.card_state.CardState.{CardState}
 use Rattle.deal_core.specs.Standing.{IsNow}
-use Rattle.card_places.specs.Refusals.{illegal_discard}
+use Rattle.card_places.specs.Refusals.{discard_reason}
 use Rattle.card_places.proofs.Legal.{drawer_is}
 use Rattle.play_laws.proofs.DueStreets.{draw_street}
 use Rattle.card_set.proofs.Options.{from_some_none}
@@ -19,7 +19,7 @@ pub record IsDrawing (setup : Setup) (past : Past) (due : Due) (seat : ℕ) : Ty
   pub draws : due ≡ dues.Draw (turn setup past).0
   pub undrawn : has_drawn past (turn setup past).0 seat ≡ false
 
-pub discard_turn : (t : CardState) (due : Due) (live : LiveRow) (setup : Setup) (past : Past) (seat : ℕ) (cards : List Slot) → IsNow t due live setup past → illegal_discard t live due seat cards ≡ None → IsDrawing setup past due seat
+pub discard_turn : (t : CardState) (due : Due) (live : LiveRow) (setup : Setup) (past : Past) (seat : ℕ) (cards : List Slot) → IsNow t due live setup past → discard_reason t live due seat cards ≡ None → IsDrawing setup past due seat
 discard_turn t (dues.Draw on) live setup past seat cards now none =
     let drawer = drawer_is t live on seat cards none in
     let same = draw_street setup past on now.due_is in

@@ -31,7 +31,7 @@ use Rattle.card_places.specs.declared.card_state.CardState.{CardState}
 use Rattle.card_places.specs.Drawn.{named_at}
 use Rattle.card_places.specs.Placed.{placed}
 use Rattle.deal_core.specs.Standing.{IsNow}
-use Rattle.card_places.specs.Refusals.{owed_of, owed_in, board_owed_in, deal_chain, illegal_hole_deal_on, illegal_board_deal_on, illegal_hole_deal, illegal_board_deal}
+use Rattle.card_places.specs.Refusals.{owed_of, owed_in, board_owed_in, deal_chain, hole_deal_reason_on, board_deal_reason_on, hole_deal_reason, board_deal_reason}
 use Rattle.card_places.specs.Room.{is_seat_of}
 use Rattle.card_places.specs.DueStreet.{due_street}
 use Rattle.play_laws.proofs.Groups.{group_count}
@@ -77,19 +77,19 @@ module _ (t : CardState) (due : Due) (live : LiveRow) (setup : Setup) (past : Pa
       ap (λ (c : Code). has_taken_card c (places_of c past) on cards) now.code_is
       ∙ ap (λ (ps : List Place). has_taken_card t.table.code ps on cards) (sym now.stands.places)
 
-  on_is : (on seat : ℕ) (cards : List Slot) → deal_chain (not (is_seat_of setup.stacks.seats seat) || (cards_owed setup past on seat == 0)) (cards_owed setup past on seat) (length cards) (has_taken_card setup.code (places_of setup.code past) on cards) ≡ illegal_hole_deal_on t live on seat cards
+  on_is : (on seat : ℕ) (cards : List Slot) → deal_chain (not (is_seat_of setup.stacks.seats seat) || (cards_owed setup past on seat == 0)) (cards_owed setup past on seat) (length cards) (has_taken_card setup.code (places_of setup.code past) on cards) ≡ hole_deal_reason_on t live on seat cards
   on_is on seat cards =
       ap (λ (n : ℕ). deal_chain (not (is_seat_of n seat) || (cards_owed setup past on seat == 0)) (cards_owed setup past on seat) (length cards) (has_taken_card setup.code (places_of setup.code past) on cards)) now.seats
       ∙ ap (λ (b : Bool). deal_chain (not (is_seat_of t.seats seat) || (cards_owed setup past on seat == 0)) (cards_owed setup past on seat) (length cards) b) (taken_is on cards)
       ∙ chain_same (is_seat_of t.seats seat) (cards_owed setup past on seat) (owed_in t live on seat) (length cards) (has_taken_card t.table.code (placed t.places) on cards) (λ is. owed_is on seat (seat_in t.seats seat is))
 
-  board_is : (on : ℕ) (cards : List Slot) → (if is_wrong_deal (board_cards_owed setup past on) (length cards) then Some reasons.WrongCount else if has_taken_card setup.code (places_of setup.code past) on cards then Some reasons.CardTaken else None) ≡ illegal_board_deal_on t on cards
+  board_is : (on : ℕ) (cards : List Slot) → (if is_wrong_deal (board_cards_owed setup past on) (length cards) then Some reasons.WrongCount else if has_taken_card setup.code (places_of setup.code past) on cards then Some reasons.CardTaken else None) ≡ board_deal_reason_on t on cards
   board_is on cards =
       ap (λ (o : ℕ). if is_wrong_deal o (length cards) then Some reasons.WrongCount else if has_taken_card setup.code (places_of setup.code past) on cards then Some reasons.CardTaken else None) (board_owed_is on)
       ∙ ap (λ (b : Bool). if is_wrong_deal (board_owed_in t on) (length cards) then Some reasons.WrongCount else if b then Some reasons.CardTaken else None) (taken_is on cards)
 
 -- when this is due
-hole_by : (t : CardState) (due : Due) (live : LiveRow) (setup : Setup) (rules : Rules) (past : Past) (seat : ℕ) (cards : List Slot) → IsNow t due live setup past → first_reason (all_reasons setup rules past ((turn setup past).0, due) (said.Hole seat cards)) ≡ illegal_hole_deal t live due seat cards
+hole_by : (t : CardState) (due : Due) (live : LiveRow) (setup : Setup) (rules : Rules) (past : Past) (seat : ℕ) (cards : List Slot) → IsNow t due live setup past → first_reason (all_reasons setup rules past ((turn setup past).0, due) (said.Hole seat cards)) ≡ hole_deal_reason t live due seat cards
 hole_by t dues.Over live setup rules past seat cards now = refl
 hole_by t dues.BringIn live setup rules past seat cards now = refl
 hole_by t dues.Move live setup rules past seat cards now = refl
@@ -103,15 +103,15 @@ hole_by t (dues.Deal on) live setup rules past seat cards now =
     ap (λ (s : ℕ). deal_chain (not (is_seat_of setup.stacks.seats seat) || (cards_owed setup past s seat == 0)) (cards_owed setup past s seat) (length cards) (has_taken_card setup.code (places_of setup.code past) s cards)) (sym (deal_street setup past on now.due_is))
     ∙ on_is t (dues.Deal on) live setup past now on seat cards
     )
-    ∙ ap (λ (c : Code). if nat_lt 0 (hole_cards_on c on) then illegal_hole_deal_on t live on seat cards else Some reasons.WrongKind) now.code_is
+    ∙ ap (λ (c : Code). if nat_lt 0 (hole_cards_on c on) then hole_deal_reason_on t live on seat cards else Some reasons.WrongKind) now.code_is
 
-pub why_hole : (t : CardState) (due : Due) (live : LiveRow) (setup : Setup) (rules : Rules) (past : Past) (seat : ℕ) (cards : List Slot) → IsNow t due live setup past → why setup rules past (said.Hole seat cards) ≡ illegal_hole_deal t live due seat cards
+pub why_hole : (t : CardState) (due : Due) (live : LiveRow) (setup : Setup) (rules : Rules) (past : Past) (seat : ℕ) (cards : List Slot) → IsNow t due live setup past → why setup rules past (said.Hole seat cards) ≡ hole_deal_reason t live due seat cards
 unfolding why
 why_hole t due live setup rules past seat cards now =
     ap (λ (d : Due). first_reason (all_reasons setup rules past ((turn setup past).0, d) (said.Hole seat cards))) now.due_is
     ∙ hole_by t due live setup rules past seat cards now
 
-board_by : (t : CardState) (due : Due) (live : LiveRow) (setup : Setup) (rules : Rules) (past : Past) (cards : List Card) → IsNow t due live setup past → first_reason (all_reasons setup rules past ((turn setup past).0, due) (said.Board cards)) ≡ illegal_board_deal t due (known_slots cards)
+board_by : (t : CardState) (due : Due) (live : LiveRow) (setup : Setup) (rules : Rules) (past : Past) (cards : List Card) → IsNow t due live setup past → first_reason (all_reasons setup rules past ((turn setup past).0, due) (said.Board cards)) ≡ board_deal_reason t due (known_slots cards)
 board_by t dues.Over live setup rules past cards now = refl
 board_by t dues.BringIn live setup rules past cards now = refl
 board_by t dues.Move live setup rules past cards now = refl
@@ -125,16 +125,16 @@ board_by t (dues.Deal on) live setup rules past cards now =
     ∙ ap (chain on) (sym (length-map cards (λ (card : Card). slots.Known card)))
     ∙ board_is t (dues.Deal on) live setup past now on (known_slots cards)
     )
-    ∙ ap (λ (c : Code). if nat_lt 0 (board_cards_on c on) then illegal_board_deal_on t on (known_slots cards) else Some reasons.WrongKind) now.code_is
+    ∙ ap (λ (c : Code). if nat_lt 0 (board_cards_on c on) then board_deal_reason_on t on (known_slots cards) else Some reasons.WrongKind) now.code_is
 
-pub why_board : (t : CardState) (due : Due) (live : LiveRow) (setup : Setup) (rules : Rules) (past : Past) (cards : List Card) → IsNow t due live setup past → why setup rules past (said.Board cards) ≡ illegal_board_deal t due (known_slots cards)
+pub why_board : (t : CardState) (due : Due) (live : LiveRow) (setup : Setup) (rules : Rules) (past : Past) (cards : List Card) → IsNow t due live setup past → why setup rules past (said.Board cards) ≡ board_deal_reason t due (known_slots cards)
 unfolding why
 why_board t due live setup rules past cards now =
     ap (λ (d : Due). first_reason (all_reasons setup rules past ((turn setup past).0, d) (said.Board cards))) now.due_is
     ∙ board_by t due live setup rules past cards now
 
 -- if cards may be dealt, the street that is due is that of the turn
-pub hole_turn : (t : CardState) (due : Due) (live : LiveRow) (setup : Setup) (past : Past) (seat : ℕ) (cards : List Slot) → (turn setup past).1 ≡ due → illegal_hole_deal t live due seat cards ≡ None → due_street due ≡ Some (turn setup past).0
+pub hole_turn : (t : CardState) (due : Due) (live : LiveRow) (setup : Setup) (past : Past) (seat : ℕ) (cards : List Slot) → (turn setup past).1 ≡ due → hole_deal_reason t live due seat cards ≡ None → due_street due ≡ Some (turn setup past).0
 hole_turn t (dues.Deal on) live setup past seat cards due_is none = ap Some (deal_street setup past on due_is)
 hole_turn t (dues.Draw on) live setup past seat cards due_is none = ap Some (draw_street setup past on due_is)
 hole_turn t dues.BringIn live setup past seat cards due_is none = from_some_none none
@@ -142,7 +142,7 @@ hole_turn t dues.Move live setup past seat cards due_is none = from_some_none no
 hole_turn t dues.Show live setup past seat cards due_is none = from_some_none none
 hole_turn t dues.Over live setup past seat cards due_is none = from_some_none none
 
-pub board_turn : (t : CardState) (due : Due) (setup : Setup) (past : Past) (cards : List Slot) → (turn setup past).1 ≡ due → illegal_board_deal t due cards ≡ None → due_street due ≡ Some (turn setup past).0
+pub board_turn : (t : CardState) (due : Due) (setup : Setup) (past : Past) (cards : List Slot) → (turn setup past).1 ≡ due → board_deal_reason t due cards ≡ None → due_street due ≡ Some (turn setup past).0
 board_turn t (dues.Deal on) setup past cards due_is none = ap Some (deal_street setup past on due_is)
 board_turn t (dues.Draw on) setup past cards due_is none = from_some_none none
 board_turn t dues.BringIn setup past cards due_is none = from_some_none none

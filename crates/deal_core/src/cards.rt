@@ -5,7 +5,7 @@ ghost use Rattle.card_set.specs.Row.{cards_of};
 ghost use Rattle.chip_ledger.specs.LiveRow.{flag_of};
 ghost use Rattle.chip_ledger.specs.SeatsSaid.{seat_said};
 ghost use Rattle.play_event.specs.Dealing.{next_to_draw};
-ghost use Rattle.play_event.specs.Past.{Past, Move, Moved, is_fold};
+ghost use Rattle.play_event.specs.Past.{Past, Move, Moved, is_folding};
 ghost use Rattle.play_event.specs.Played.{IsPlace};
 ghost use Rattle.play_event.specs.Said.{said_of};
 ghost use Rattle.play_event.specs.SeatSlots.{slots_of_hand, ups_of};
@@ -165,7 +165,7 @@ impl<V: Variant> Cards<V> {
     /// The seat folded: its cards are gone.
     pub fn folded(&mut self, seat: Seat)
         ensures stands { (past : Past) (move : Move) → StandsFor self.old past
-            → is_fold move.act ≡ true → move.seat ≡ seat.number
+            → is_folding move.act ≡ true → move.seat ≡ seat.number
             → StandsFor self.new (Moved move ∷ past) }
         ensures hand { AreOfOneHand self.old self.new }
     {

@@ -5,7 +5,7 @@ ghost use Rattle.first_fault.specs.Digits as decimal;
 
 /// Whether the text is one or more decimal digits.
 #[tactic(auto, unfolding(crate::specs::Digits::are_digits))]
-pub fn are_digits(text: &[u8]) -> bool
+pub fn is_all_digits(text: &[u8]) -> bool
     ensures { result ≡ decimal.are_digits text.now }
 {
     if text.is_empty() {

@@ -10,7 +10,7 @@ mod text;
 mod words;
 
 pub use bounds::{has_count, in_range, saturating_u32};
-pub use digits::{are_digits, read_digits};
+pub use digits::{is_all_digits, read_digits};
 pub use limits::{MOST_FILE_MOVES, MOST_HANDS, MOST_TEXT_BYTES, Quantity};
 pub use stop::ReadError;
 pub use text::Text;

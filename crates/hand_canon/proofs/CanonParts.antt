@@ -2,7 +2,7 @@
 use Rattle.std.proofs.Common.{◌≡◌, ℕ, ◌≤◌, ◌<◌, ◌==◌, true, nat_le, if◌then◌else◌, List, [], ◌∷◌, ◌++◌, map, filter, Some, None, sym, ap, ◌∙◌, arith}
 use Rattle.std.specs.List.{flat_map, list_any}
 use Rattle.card_set.specs.declared.card.Slot.{Slot}
-use Rattle.card_set.specs.Known.{known_cards}
+use Rattle.card_set.specs.Known.{known_among}
 use Rattle.chip_ledger.specs.declared.live_row.LiveRow.{LiveRow}
 use Rattle.chip_ledger.specs.LiveRow.{flag_of, flagged}
 use Rattle.chip_ledger.specs.Seat.{seats_of}
@@ -83,5 +83,5 @@ showdown_are setup placed moves shown folded held marked some slots =
     (λ k from.
     ap (λ b. if b then said k ∷ [] else []) (marked.each k from)
     ∙ if_not (flag_of folded k) (said k ∷ []) []
-    ∙ ap (λ b. if flag_of folded k then [] else (if b then Show k (known_cards (held_slots placed k)) else Muck k) ∷ []) (is_flagged shown k from)
-    ∙ ap (λ l. if flag_of folded k then [] else (if flag_of shown k then Show k (known_cards l) else Muck k) ∷ []) (sym (slots k from)))
+    ∙ ap (λ b. if flag_of folded k then [] else (if b then Show k (known_among (held_slots placed k)) else Muck k) ∷ []) (is_flagged shown k from)
+    ∙ ap (λ l. if flag_of folded k then [] else (if flag_of shown k then Show k (known_among l) else Muck k) ∷ []) (sym (slots k from)))

@@ -4,21 +4,21 @@ use Rattle.chip_ledger.specs.declared.live_row.LiveRow.{LiveRow}
 use Rattle.chip_ledger.specs.LiveRow.{flag_of}
 use Rattle.chip_ledger.specs.Seat.{seats_of}
 use Rattle.card_set.specs.declared.card.Slot.{Slot}
-use Rattle.card_set.specs.Known.{known_cards}
+use Rattle.card_set.specs.Known.{known_among}
 use Rattle.play_event.specs.declared.hands.HandRow.{HandRow}
 use Rattle.play_event.specs.declared.played.Move.{Move}
 use Rattle.play_event.specs.declared.played.Place.{Place}
 use Rattle.play_event.specs.Places.{is_same_owner}
 use Rattle.play_event.specs.Said.{Said, Discard, Show, Muck}
 use Rattle.play_event.specs.SeatSlots.{slots_of_hand}
-use Rattle.play_event.specs.Past.{is_fold}
+use Rattle.play_event.specs.Past.{is_folding}
 use Rattle.play_event.specs.Played.{act_said, move_said}
 use Rattle.play_event.specs.CanonScript.{move_named, plain_move}
 use Rattle.hand_canon.specs.TraceRows.{place_said}
 
 -- a move is a fold by a seat
 abbrev pub is_fold_of : ℕ → Move → Bool
-is_fold_of seat move = is_fold (act_said move.act) && (move.seat.number == seat)
+is_fold_of seat move = is_folding (act_said move.act) && (move.seat.number == seat)
 
 -- a move is a fold by a seat before a street
 abbrev pub is_fold_before : ℕ → ℕ → Move → Bool
@@ -49,5 +49,5 @@ showings_from folded shown held seat =
     if flag_of folded seat then []
     else (
     if flag_of shown seat
-    then Show seat (known_cards (slots_of_hand held seat))
+    then Show seat (known_among (slots_of_hand held seat))
     else Muck seat) ∷ []

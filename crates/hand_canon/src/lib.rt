@@ -27,7 +27,9 @@ pub use first_fault::{Quantity, Text};
 pub use folds::folds_before;
 pub use gathered::{board_with_street, held_by_seats};
 pub use moves::Moves;
-pub use notes::{CivilDate, Clock, Moment, NoteName, Notes, TextNotes, name_of, non_default_seats};
+pub use notes::{
+    CivilDate, Clock, Moment, NoteName, Notes, TextNotes, name_of, omit_default_seats,
+};
 pub use places::Places;
 pub use record::{NetRow, Record, Records, Stated};
 pub use sizes::Sizes;

@@ -244,7 +244,7 @@ const USUAL: [u8; 10] = [1, 2, 3, 4, 5, 6, 7, 8, 9, 10];
 
 /// The numbers of `seats` seats at the table, the first seat's at index 0, or `None` if they are
 /// the default: 1, 2 and so on.
-pub fn non_default_seats(numbers: [u8; 10], seats: usize) -> Option<[u8; 10]>
+pub fn omit_default_seats(numbers: [u8; 10], seats: usize) -> Option<[u8; 10]>
     requires { seats ≤ 10 }
     ensures said { option_map (take seats) result
         ≡ allowed_notes.non_default_seats seats (take seats numbers) }

@@ -13,7 +13,7 @@ ghost use Rattle.hand_order.specs.StraightRanks.{topped};
 ghost use Rattle.hand_order.specs.SuitBest.{IsBestOfSuit};
 ghost use Rattle.hand_order.specs.Tops.{Shows};
 
-use crate::ladder::{FlushRank, flush_class, flush_ranked};
+use crate::ladder::{FlushRank, adjust_class, class_of_flush};
 use crate::levels::levels_of;
 use crate::mask::with_top_digits;
 use crate::pattern::best_pattern;
@@ -45,7 +45,7 @@ pub fn best_high(cards: &CardSet, low: LowStraight, flush: FlushRank) -> u32
     let spades = cards.rank_mask(Suit::S);
     let levels = levels_of(clubs, diamonds, hearts, spades);
     let pattern = best_pattern(levels.all, levels.two, levels.three, levels.four);
-    let plain = above_number(flush_ranked(flush, pattern.class), pattern.number);
+    let plain = above_number(adjust_class(flush, pattern.class), pattern.number);
     let straight = straight_points(4, top_straight(levels.all, low));
     plain
         .max(straight)
@@ -64,7 +64,7 @@ fn suit_points(mask: u16, low: LowStraight, flush: FlushRank) -> u32
     if mask.count_ones() < 5 {
         return 0;
     }
-    let suited = above_number(flush_class(flush), with_top_digits(0, mask, 5));
+    let suited = above_number(class_of_flush(flush), with_top_digits(0, mask, 5));
     suited.max(straight_points(8, top_straight(mask, low)))
 }
 

@@ -1,7 +1,7 @@
 //! The classes of hands of the high orders, which differ only in whether a flush beats a full
 //! house.
 ghost use Rattle.std.specs.Prelude.{◌≡◌};
-ghost use Rattle.hand_order.specs.Ladder.{flush_class, flush_ranked};
+ghost use Rattle.hand_order.specs.Ladder as ladder;
 
 /// How a flush ranks beside a full house.
 #[derive(Clone, Copy, Debug, PartialEq, Eq)]
@@ -13,8 +13,8 @@ pub enum FlushRank {
 }
 
 /// The class of a flush, 5 or 6.
-pub fn flush_class(place: FlushRank) -> u32
-    ensures { result ≡ flush_class place }
+pub fn class_of_flush(place: FlushRank) -> u32
+    ensures { result ≡ ladder.flush_class place }
 {
     match place {
         FlushRank::BelowFullHouse => 5,
@@ -23,8 +23,8 @@ pub fn flush_class(place: FlushRank) -> u32
 }
 
 /// The class in this order of a hand whose class was found as if a full house were class 6.
-pub fn flush_ranked(place: FlushRank, class: u32) -> u32
-    ensures { result ≡ flush_ranked place class }
+pub fn adjust_class(place: FlushRank, class: u32) -> u32
+    ensures { result ≡ ladder.flush_ranked place class }
 {
     match place {
         FlushRank::BelowFullHouse => class,

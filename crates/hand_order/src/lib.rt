@@ -21,6 +21,6 @@ pub use ladder::FlushRank;
 pub use lowest::lowest_ranks;
 pub use mask::{clear, top};
 pub use order::{HandOrder, Score};
-pub use ranks::{Ace, all_heights, class_above, count_of_ranks, height_of, ranks_of, times_of};
+pub use ranks::{Ace, all_heights, count_of_ranks, height_of, make_points, ranks_of, times_of};
 pub use row::RankRow;
 pub use straights::LowStraight;

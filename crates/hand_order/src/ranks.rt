@@ -3,7 +3,8 @@
 ghost use Rattle.std.specs.Prelude.{◌≡◌, ◌+◌, ◌*◌, ◌<◌, ◌≤◌, ◌^◌, ◌++◌, length};
 ghost use Rattle.card_set.specs.Row.{cards_of};
 ghost use Rattle.card_set.specs.Ranks.{falling_heights, occurring, ranks_of, times};
-ghost use Rattle.hand_order.specs.Digits.{class_above, with_digits};
+ghost use Rattle.hand_order.specs.Digits.{with_digits};
+ghost use Rattle.hand_order.specs.Digits as points;
 ghost use Rattle.hand_order.specs.Height.{height_with};
 ghost use Rattle.hand_order.specs.Heights.{heights_of};
 
@@ -103,10 +104,10 @@ pub fn height_of(rank: Rank, ace: Ace) -> u8
 
 /// The number that a class and these heights make. For the same class and the same number of
 /// heights, it is lower if the first height that differs is lower.
-pub fn class_above(class: u32, heights: &[u8]) -> u32
+pub fn make_points(class: u32, heights: &[u8]) -> u32
     requires class { class ≤ 15 }
     requires below { with_digits 0 heights.now < 16 ^ 5 }
-    ensures { result ≡ class_above class heights.now }
+    ensures { result ≡ points.class_above class heights.now }
 {
     above_number(class, number_of(heights))
 }

@@ -2,7 +2,8 @@
 //! the ace begins.
 ghost use Rattle.std.specs.Prelude.{◌≡◌, ◌≤◌, ◌<◌, ◌==◌, ◌&&◌, ◌⊎◌, ◌↔◌, ◌+◌, ◌^◌, ℕ};
 ghost use Rattle.std.specs.Int.{bit_at};
-ghost use Rattle.hand_order.specs.StraightRanks.{HasLow, HasRun, HasStraight, IsRunFrom, has_ace_and_four};
+ghost use Rattle.hand_order.specs.StraightRanks.{HasLow, HasRun, HasStraight, IsRunFrom};
+ghost use Rattle.hand_order.specs.StraightRanks as straight_ranks;
 ghost use Rattle.hand_order.specs.Tops.{Shows};
 
 use crate::mask::top;
@@ -53,16 +54,16 @@ fn top_low(mask: u16, low: LowStraight) -> u8
     ensures found { (T : ℕ → ℕ) → Shows mask 1 T → (result ≡ 0) ⊎ HasLow low T result }
 {
     match low {
-        LowStraight::FiveHigh => if has_ace_and_four(mask, 0) { 5 } else { 0 },
-        LowStraight::NineHigh => if has_ace_and_four(mask, 4) { 9 } else { 0 },
+        LowStraight::FiveHigh => if has_low_straight(mask, 0) { 5 } else { 0 },
+        LowStraight::NineHigh => if has_low_straight(mask, 4) { 9 } else { 0 },
         LowStraight::Nothing => 0,
     }
 }
 
 // Whether the ace is set, and four bits in a row from this one up.
-fn has_ace_and_four(mask: u16, least: u32) -> bool
+fn has_low_straight(mask: u16, least: u32) -> bool
     requires { least ≤ 8 }
-    ensures { result ≡ has_ace_and_four mask least }
+    ensures { result ≡ straight_ranks.has_ace_and_four mask least }
 {
     has(mask, 12)
         && has(mask, least)

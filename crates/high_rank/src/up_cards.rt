@@ -7,7 +7,7 @@ ghost use Rattle.card_set.specs.UpCards.{AreUpCards, IsWeakerUpHigh};
 ghost use Rattle.high_rank.specs.UpHigh.{up_high_points, up_high_table};
 
 use card_set::CardRow;
-use hand_order::{Ace, Score, class_above, count_of_ranks, ranks_of};
+use hand_order::{Ace, Score, count_of_ranks, make_points, ranks_of};
 
 /// How good up-cards are if high cards are good: four of a kind, three of a kind, two pair, pair,
 /// high card, then the ranks. Only compare scores of the same number of up-cards.
@@ -23,7 +23,7 @@ pub fn up_high(cards: &CardRow) -> Score
     let pairs = count_of_ranks(cards, Ace::High, 2);
     let ranks = ranks_of(cards, Ace::High);
     Score {
-        points: class_above(up_class(fours, threes, pairs), ranks.as_slice()),
+        points: make_points(up_class(fours, threes, pairs), ranks.as_slice()),
     }
 }
 

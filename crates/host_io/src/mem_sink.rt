@@ -115,8 +115,5 @@ fn empty_with_room(alloc: Global, room: usize) -> Result<Vec<u8>, Memory>
     ensures len { IfOk result (λ bytes. vec_len bytes ≡ 0) }
     ensures room { IfOk result (λ bytes. room ≤ vec_capacity bytes) }
 {
-    match Vec::with_capacity(alloc, room) {
-        Ok(bytes) => Ok(bytes),
-        Err(_) => Err(Memory {}),
-    }
+    Vec::with_capacity(alloc, room).map_err(|_| Memory {})
 }

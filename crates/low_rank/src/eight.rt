@@ -9,7 +9,7 @@ ghost use Rattle.hand_order.specs.Points.{greatest};
 ghost use Rattle.low_rank.specs.EightLow.{points};
 
 use card_set::{CardSet, Suit};
-use hand_order::{Score, class_above, lowest_ranks};
+use hand_order::{Score, lowest_ranks, make_points};
 
 // The mask of the ace and of the ranks from two to eight.
 const LOW_RANKS: u16 = 0x107F;
@@ -30,6 +30,6 @@ pub fn best_eight(cards: &CardSet) -> Option<Score>
     }
     let ranks = lowest_ranks(all, 8, 1, 5);
     Some(Score {
-        points: 0x100_0000 - class_above(0, ranks.as_slice()),
+        points: 0x100_0000 - make_points(0, ranks.as_slice()),
     })
 }

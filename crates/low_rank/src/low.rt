@@ -8,7 +8,7 @@ ghost use Rattle.card_set.specs.UpCards.{AreUpCards, IsWeakerLow};
 ghost use Rattle.low_rank.specs.Low.{low_points, low_table};
 
 use card_set::CardRow;
-use hand_order::{Ace, Score, class_above, count_of_ranks, ranks_of};
+use hand_order::{Ace, Score, count_of_ranks, make_points, ranks_of};
 
 /// How good up-cards are if low cards are good, with the ace low: no pair, pair, two pair, three of
 /// a kind, four of a kind, then the ranks. Only compare scores of the same number of up-cards.
@@ -33,7 +33,7 @@ pub fn low_score(cards: &CardRow) -> Score
     let pairs = count_of_ranks(cards, Ace::Low, 2);
     let ranks = ranks_of(cards, Ace::Low);
     Score {
-        points: 0x100_0000 - class_above(class_of(fours, threes, pairs), ranks.as_slice()),
+        points: 0x100_0000 - make_points(class_of(fours, threes, pairs), ranks.as_slice()),
     }
 }
 

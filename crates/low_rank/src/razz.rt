@@ -13,17 +13,16 @@ ghost use Rattle.low_rank.specs.RazzBest.{
   HasClass,
   both_ranks,
   class_ranks,
-  is_free,
-  is_height_of,
   low_count,
   often,
   often_ranks,
   seldom,
   seldom_ranks,
 };
+ghost use Rattle.low_rank.specs.RazzBest as razz_best;
 
 use card_set::{CardSet, Suit};
-use hand_order::{RankRow, Score, class_above};
+use hand_order::{RankRow, Score, make_points};
 
 /// The score of the best five of a set's cards in razz. The choices of five are not listed.
 pub fn best_razz(cards: &CardSet) -> Score
@@ -39,7 +38,7 @@ pub fn best_razz(cards: &CardSet) -> Score
     };
     let best = best_class(&masks, 0);
     Score {
-        points: 0x100_0000 - class_above(best.class, best.ranks.as_slice()),
+        points: 0x100_0000 - make_points(best.class, best.ranks.as_slice()),
     }
 }
 
@@ -165,7 +164,8 @@ fn lowest_free(
     requires last { from + heights ≤ 14 }
     requires few { need ≤ 5 }
     ensures list { heights_of result
-        ≡ lowest (is_free (low_count masks.now) least (heights_of others.now)) heights from need }
+        ≡ lowest (razz_best.is_free (low_count masks.now) least (heights_of others.now))
+        heights from need }
     ensures long { length (heights_of result) ≤ need }
 {
     if least == 1 && others.as_slice().is_empty() {
@@ -175,7 +175,7 @@ fn lowest_free(
     if heights == 0 || need == 0 {
         return RankRow::new();
     }
-    if !is_free(masks, least, others, from) {
+    if !can_use_rank(masks, least, others, from) {
         return lowest_free(masks, least, others, heights - 1, from + 1, need);
     }
     let mut row = lowest_free(masks, least, others, heights - 1, from + 1, need - 1);
@@ -184,17 +184,18 @@ fn lowest_free(
 }
 
 // Whether a rank occurs in enough suits and is not among the others.
-fn is_free(masks: &SuitMasks, least: u8, others: &RankRow, height: u8) -> bool
+fn can_use_rank(masks: &SuitMasks, least: u8, others: &RankRow, height: u8) -> bool
     requires first { 1 ≤ height }
     requires last { height ≤ 13 }
-    ensures { result ≡ is_free (low_count masks.now) least (heights_of others.now) height }
+    ensures { result
+        ≡ razz_best.is_free (low_count masks.now) least (heights_of others.now) height }
 {
     let place = if height == 1 { 12 } else { height - 2 };
     let suits = bit_of(masks.clubs, place)
         + bit_of(masks.diamonds, place)
         + bit_of(masks.hearts, place)
         + bit_of(masks.spades, place);
-    least <= suits && !is_height_of(others.as_slice(), height)
+    least <= suits && !contains_height(others.as_slice(), height)
 }
 
 // A bit of a mask: 1 if it is set.
@@ -207,8 +208,8 @@ fn bit_of(mask: u16, place: u8) -> u8
 }
 
 // Whether a height is one of these.
-fn is_height_of(heights: &[u8], height: u8) -> bool
-    ensures { result ≡ is_height_of heights.now height }
+fn contains_height(heights: &[u8], height: u8) -> bool
+    ensures { result ≡ razz_best.is_height_of heights.now height }
 {
     heights.iter().any(|other| *other == height)
 }

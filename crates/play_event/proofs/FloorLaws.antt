@@ -21,10 +21,10 @@ use Rattle.play_event.specs.declared.limit.Limit.{Limit}
 use Rattle.play_event.specs.declared.limit.Limit.TheVariants as limits
 use Rattle.play_event.specs.declared.limit.Opener.{Opener}
 use Rattle.play_event.specs.declared.limit.Opener.TheVariants as openers
-use Rattle.play_event.specs.Streets.{limit_of, opener_of, is_stud, is_opened_by_up_cards}
+use Rattle.play_event.specs.Streets.{limit_of, opener_of, is_stud_game, is_opened_by_up_cards}
 use Rattle.play_event.specs.Said as said
 use Rattle.play_event.specs.Said.{Said}
-use Rattle.play_event.specs.Past.{Past, Move, moves_of, moves_on, is_raise}
+use Rattle.play_event.specs.Past.{Past, Move, moves_of, moves_on, is_raising}
 use Rattle.play_event.specs.Chips.{chips_left, street_chips, chips_added, brought, all_in}
 use Rattle.play_event.specs.Seats.{all_seats, is_live, able_count}
 use Rattle.play_event.specs.CurrentBet.{current_bet, full_raise, rise, doubled_raises, starting_bet}
@@ -40,7 +40,7 @@ use Rattle.play_event.specs.Reasons.{why, is_due_kind}
 use Rattle.play_event.specs.Table.{up_cards}
 use Rattle.play_event.specs.Scripts.{with_event, past_of, resolved_by}
 use Rattle.play_event.specs.TurnTargets.{is_bet_due}
-use Rattle.play_event.specs.ValidSetup.{IsValid, IsSizeWhere, is_fixed}
+use Rattle.play_event.specs.ValidSetup.{IsValid, IsSizeWhere, is_fixed_limit}
 use Rattle.play_event.specs.Laws.{AreLegal}
 use Rattle.play_event.proofs.PlayerToActLaws.{player_to_act_can_act, found_in_turn}
 use Rattle.play_event.proofs.ReasonLaws.{no_reason_holds}
@@ -71,8 +71,8 @@ greatest_reaches f first (suc count) x low high = elim (cases_lt first x) [
 -- current bet, and no other move goes above it
 record IsFitting (setup : Setup) (older : List Move) (move : Move) : Type 0 where
   from_is : move.from ≡ street_chips setup older move.street move.seat
-  raises : is_raise move.act ≡ true → (current_bet setup older move.street < move.to) × ((1 ≤ move.seat) × (move.seat ≤ setup.stacks.seats))
-  stays : is_raise move.act ≡ false → move.to ≤ max move.from (current_bet setup older move.street)
+  raises : is_raising move.act ≡ true → (current_bet setup older move.street < move.to) × ((1 ≤ move.seat) × (move.seat ≤ setup.stacks.seats))
+  stays : is_raising move.act ≡ false → move.to ≤ max move.from (current_bet setup older move.street)
 
 abbrev AreFitting : Setup → List Move → Type 0
 AreFitting setup [] = Unit {0}
@@ -134,13 +134,13 @@ module _ (setup : Setup) (older : List Move) (move : Move) (street : ℕ) where
       omega (arith, added_by move.seat true there own, from_here move.seat fits there own, reaches)
 
   -- another move leaves the current bet as it was
-  within_current_bet : (x : ℕ) (mine : Bool) → IsFitting setup older move → is_raise move.act ≡ false → (move.street == street) ≡ true → (move.seat == x) ≡ mine → chips_after x ≤ max (chips_before x) (current_bet setup older street)
+  within_current_bet : (x : ℕ) (mine : Bool) → IsFitting setup older move → is_raising move.act ≡ false → (move.street == street) ≡ true → (move.seat == x) ≡ mine → chips_after x ≤ max (chips_before x) (current_bet setup older street)
   within_current_bet x true fits calm there is =
       let same : current_bet setup older move.street ≡ current_bet setup older street = ap (current_bet setup older) (eqb-true move.street street there) in
       omega (arith, added_by x true there is, from_here x fits there is, fits.stays calm, same)
   within_current_bet x false fits calm there is = omega (arith, added_by x false there is)
 
-  current_bet_stays : IsFitting setup older move → is_raise move.act ≡ false → (move.street == street) ≡ true → current_bet setup (move ∷ older) street ≤ current_bet setup older street
+  current_bet_stays : IsFitting setup older move → is_raising move.act ≡ false → (move.street == street) ≡ true → current_bet setup (move ∷ older) street ≤ current_bet setup older street
   current_bet_stays fits calm there =
       let within = greatest_within chips_before chips_after (current_bet setup older street) (λ x. within_current_bet x (move.seat == x) fits calm there refl) (all_seats setup) in
       omega (arith, within)
@@ -154,15 +154,15 @@ module _ (setup : Setup) (older : List Move) (move : Move) (street : ℕ) where
   full_grows_by false = omega arith
 
   full_grows : full_raise setup older street ≤ full_raise setup (move ∷ older) street
-  full_grows = full_grows_by ((move.street == street) && is_raise move.act && nat_le (full_raise setup older street) (rise setup move older))
+  full_grows = full_grows_by ((move.street == street) && is_raising move.act && nat_le (full_raise setup older street) (rise setup move older))
 
-  full_at : (move.street == street) ≡ true → is_raise move.act ≡ true → (enough : Bool) → nat_le (full_raise setup older street) (rise setup move older) ≡ enough → full_raise setup (move ∷ older) street ≡ full_by enough
+  full_at : (move.street == street) ≡ true → is_raising move.act ≡ true → (enough : Bool) → nat_le (full_raise setup older street) (rise setup move older) ≡ enough → full_raise setup (move ∷ older) street ≡ full_by enough
   full_at there raised enough is =
-      ap (λ b. full_by (b && is_raise move.act && nat_le (full_raise setup older street) (rise setup move older))) there
+      ap (λ b. full_by (b && is_raising move.act && nat_le (full_raise setup older street) (rise setup move older))) there
       ∙ ap (λ b. full_by (b && nat_le (full_raise setup older street) (rise setup move older))) raised
       ∙ ap full_by is
 
-  rise_within : (move.street == street) ≡ true → is_raise move.act ≡ true → rise setup move older ≤ full_raise setup (move ∷ older) street
+  rise_within : (move.street == street) ≡ true → is_raising move.act ≡ true → rise setup move older ≤ full_raise setup (move ∷ older) street
   rise_within there raised = elim (cases_lt (rise setup move older) (full_raise setup older street)) [
     | inl short ↦ omega (arith, short, full_grows)
     | inr enough ↦ omega (arith, full_at there raised true (le-leb (full_raise setup older street) (rise setup move older) enough))
@@ -172,15 +172,15 @@ module _ (setup : Setup) (older : List Move) (move : Move) (street : ℕ) where
   abbrev doubled_by : Bool → List ℕ
   doubled_by raised = if raised then ((2 * move.to - current_bet setup older street) ∷ doubled_raises setup older street) else doubled_raises setup older street
 
-  doubled_raised : (move.street == street) ≡ true → is_raise move.act ≡ true → doubled_raises setup (move ∷ older) street ≡ (2 * move.to - current_bet setup older street) ∷ doubled_raises setup older street
-  doubled_raised there raised = ap (λ b. doubled_by (b && is_raise move.act)) there ∙ ap doubled_by raised
+  doubled_raised : (move.street == street) ≡ true → is_raising move.act ≡ true → doubled_raises setup (move ∷ older) street ≡ (2 * move.to - current_bet setup older street) ∷ doubled_raises setup older street
+  doubled_raised there raised = ap (λ b. doubled_by (b && is_raising move.act)) there ∙ ap doubled_by raised
 
-  doubled_calm : is_raise move.act ≡ false → (there : Bool) → (move.street == street) ≡ there → doubled_raises setup (move ∷ older) street ≡ doubled_raises setup older street
-  doubled_calm calm true there = ap (λ b. doubled_by (b && is_raise move.act)) there ∙ ap doubled_by calm
-  doubled_calm calm false there = ap (λ b. doubled_by (b && is_raise move.act)) there
+  doubled_calm : is_raising move.act ≡ false → (there : Bool) → (move.street == street) ≡ there → doubled_raises setup (move ∷ older) street ≡ doubled_raises setup older street
+  doubled_calm calm true there = ap (λ b. doubled_by (b && is_raising move.act)) there ∙ ap doubled_by calm
+  doubled_calm calm false there = ap (λ b. doubled_by (b && is_raising move.act)) there
 
   doubled_elsewhere : (move.street == street) ≡ false → doubled_raises setup (move ∷ older) street ≡ doubled_raises setup older street
-  doubled_elsewhere elsewhere = ap (λ b. doubled_by (b && is_raise move.act)) elsewhere
+  doubled_elsewhere elsewhere = ap (λ b. doubled_by (b && is_raising move.act)) elsewhere
 
 -- the current bet is not below the starting bet, and the smallest full raise is not below the
 -- minimum bet
@@ -195,12 +195,12 @@ bet_below setup (move ∷ older) street = omega (arith, bet_below setup older st
 -- these sums are within the current bet plus a full raise
 doubled_within : (setup : Setup) (moves : List Move) (street : ℕ) → AreFitting setup moves → greatest (doubled_raises setup moves street) ≤ current_bet setup moves street + full_raise setup moves street
 doubled_within setup [] street fits = omega arith
-doubled_within setup (move ∷ older) street fits = by_move (move.street == street) (is_raise move.act) refl refl (doubled_within setup older street fits.1)
+doubled_within setup (move ∷ older) street fits = by_move (move.street == street) (is_raising move.act) refl refl (doubled_within setup older street fits.1)
   where
     grown : greatest (doubled_raises setup older street) ≤ current_bet setup older street + full_raise setup older street → greatest (doubled_raises setup older street) ≤ current_bet setup (move ∷ older) street + full_raise setup (move ∷ older) street
     grown before = omega (arith, before, current_bet_grows setup older move street, full_grows setup older move street)
 
-    by_move : (there raised : Bool) → (move.street == street) ≡ there → is_raise move.act ≡ raised → greatest (doubled_raises setup older street) ≤ current_bet setup older street + full_raise setup older street → greatest (doubled_raises setup (move ∷ older) street) ≤ current_bet setup (move ∷ older) street + full_raise setup (move ∷ older) street
+    by_move : (there raised : Bool) → (move.street == street) ≡ there → is_raising move.act ≡ raised → greatest (doubled_raises setup older street) ≤ current_bet setup older street + full_raise setup older street → greatest (doubled_raises setup (move ∷ older) street) ≤ current_bet setup (move ∷ older) street + full_raise setup (move ∷ older) street
     by_move true true there raised before =
         let in_hand = (fits.0.raises raised).1 in
         let same : current_bet setup older move.street ≡ current_bet setup older street = ap (current_bet setup older) (eqb-true move.street street there) in
@@ -216,9 +216,9 @@ floor_within reopen.Always setup moves street fits = omega (arith, doubled_withi
 -- and the current bet is below the lowest raise
 above_start : (setup : Setup) (moves : List Move) (street : ℕ) → 1 ≤ setup.min_bet → AreFitting setup moves → current_bet setup moves street < max (starting_bet setup street + setup.min_bet) (greatest (doubled_raises setup moves street))
 above_start setup [] street some fits = omega (arith, some)
-above_start setup (move ∷ older) street some fits = by_move (move.street == street) (is_raise move.act) refl refl (above_start setup older street some fits.1)
+above_start setup (move ∷ older) street some fits = by_move (move.street == street) (is_raising move.act) refl refl (above_start setup older street some fits.1)
   where
-    by_move : (there raised : Bool) → (move.street == street) ≡ there → is_raise move.act ≡ raised → current_bet setup older street < max (starting_bet setup street + setup.min_bet) (greatest (doubled_raises setup older street)) → current_bet setup (move ∷ older) street < max (starting_bet setup street + setup.min_bet) (greatest (doubled_raises setup (move ∷ older) street))
+    by_move : (there raised : Bool) → (move.street == street) ≡ there → is_raising move.act ≡ raised → current_bet setup older street < max (starting_bet setup street + setup.min_bet) (greatest (doubled_raises setup older street)) → current_bet setup (move ∷ older) street < max (starting_bet setup street + setup.min_bet) (greatest (doubled_raises setup (move ∷ older) street))
     by_move true true there raised before =
         let above = (fits.0.raises raised).0 in
         let same : current_bet setup older move.street ≡ current_bet setup older street = ap (current_bet setup older) (eqb-true move.street street there) in
@@ -295,7 +295,7 @@ opener_from_one setup street = by_street (street == 1) (setup.stacks.seats == 2)
     by_street true false = after_from_one (last_big_blind setup == setup.stacks.seats) (last_big_blind setup)
     by_street false two = omega arith
 
-module _ (setup : Setup) (moves : List Move) (street : ℕ) (blinds : is_stud setup.code ≡ false) where
+module _ (setup : Setup) (moves : List Move) (street : ℕ) (blinds : is_stud_game setup.code ≡ false) where
   start : List Move → ℕ
   start [] = blinds_opener setup street
   start (move ∷ before) = seat_after setup move.seat
@@ -376,14 +376,14 @@ no_bring_in : (stud first two : Bool) (rest : Bool) → stud ≡ false → (stud
 no_bring_in true first two rest blinds is = false_true (sym blinds)
 no_bring_in false first two rest blinds is = false_true is
 
-move_is_due : (setup : Setup) (before : Past) → is_stud setup.code ≡ false → is_bet_due (turn setup before).1 ≡ true → is_move_due setup (moves_of before) (turn setup before).0 ≡ true
+move_is_due : (setup : Setup) (before : Past) → is_stud_game setup.code ≡ false → is_bet_due (turn setup before).1 ≡ true → is_move_due setup (moves_of before) (turn setup before).0 ≡ true
 unfolding due_by
 move_is_due setup before blinds bet =
     let street = (turn setup before).0 in
     let moves = moves_of before in
     let first = due_is_first setup before street (turn setup before).1 refl (bet_unfinished (turn setup before).1 bet) in
     elim (bet_by (is_deal_due setup before street) (is_draw_due setup before street) (is_bring_in_due setup moves street) (is_move_due setup moves street) street (turn setup before).1 first.is_due bet) [
-      | inl bring ↦ absurd (no_bring_in (is_stud setup.code) (street == 1) (nat_le 2 (able_count setup moves)) (not (list_any (λ move. has_opened_betting move.act) (moves_on street moves))) blinds bring)
+      | inl bring ↦ absurd (no_bring_in (is_stud_game setup.code) (street == 1) (nat_le 2 (able_count setup moves)) (not (list_any (λ move. has_opened_betting move.act) (moves_on street moves))) blinds bring)
       | inr move ↦ move
     ]
 
@@ -407,7 +407,7 @@ player_to_act_of setup moves None NoSeat own known = inr refl
 player_to_act_of setup moves None (TheSeat other) own known = inl refl
 player_to_act_of setup moves (Some seat) (TheSeat other) own known = inl (ap TheSeat (sym (eqb-true seat other (not-false (seat == other) own))))
 
-target_above : (limit : Limit) (reopens : Reopen) (setup : Setup) (moves : List Move) (street seat target : ℕ) → is_fixed limit ≡ false → current_bet setup moves street < floor reopens setup moves street → 1 ≤ setup.min_bet → current_bet setup moves street < all_in setup moves street seat → is_target_in limit reopens setup moves street seat target ≡ true → current_bet setup moves street < target
+target_above : (limit : Limit) (reopens : Reopen) (setup : Setup) (moves : List Move) (street seat target : ℕ) → is_fixed_limit limit ≡ false → current_bet setup moves street < floor reopens setup moves street → 1 ≤ setup.min_bet → current_bet setup moves street < all_in setup moves street seat → is_target_in limit reopens setup moves street seat target ≡ true → current_bet setup moves street < target
 target_above limits.Fixed reopens setup moves street seat target bounded low some chips legal = false_true (sym bounded)
 target_above limits.No reopens setup moves street seat target bounded low some chips legal = elim (or_cases (nat_le (floor reopens setup moves street) target && nat_le target (all_in setup moves street seat)) (target == all_in setup moves street seat) legal) [
   | inl between ↦ omega (arith, low, leb-true (floor reopens setup moves street) target (and_parts (nat_le (floor reopens setup moves street) target) (nat_le target (all_in setup moves street seat)) between).0)
@@ -425,7 +425,7 @@ fits_target reopens setup moves street seat target small big =
     let same : target ≡ greatest_target setup moves street seat = omega (arith, low, high) in
     ap (λ (t : ℕ). is_legal_target reopens setup moves street seat t) same ∙ greatest_is_legal reopens setup moves street seat
 
-module _ (setup : Setup) (rules : Rules) (blinds : is_stud setup.code ≡ false) (bounded : is_fixed (limit_of setup.code) ≡ false) (some : 1 ≤ setup.min_bet) (none_brought : setup.bring_in ≡ 0) where
+module _ (setup : Setup) (rules : Rules) (blinds : is_stud_game setup.code ≡ false) (bounded : is_fixed_limit (limit_of setup.code) ≡ false) (some : 1 ≤ setup.min_bet) (none_brought : setup.bring_in ≡ 0) where
   -- what follows from a legal raise
   raise_fits : (before : Past) (named : Option ℕ) (amount : Spelled) → AreFitting setup (moves_of before) → why setup rules before (said.Raise named amount) ≡ None
       → let street = (turn setup before).0 in let seat = actor_of named (player_to_act setup (up_cards setup.code before) (moves_of before) street) in (current_bet setup (moves_of before) street < raise_target setup (moves_of before) street seat amount) × ((1 ≤ seat) × (seat ≤ setup.stacks.seats))
@@ -470,7 +470,7 @@ module _ (setup : Setup) (rules : Rules) (blinds : is_stud setup.code ≡ false)
   fits_all (event ∷ before) legal = fits_next (past_of setup before) event (fits_all before legal.1) legal.0
 
 -- no stud game is played in no limit or pot limit
-blinds_unfixed : (code : Code) → is_fixed (limit_of code) ≡ false → is_stud code ≡ false
+blinds_unfixed : (code : Code) → is_fixed_limit (limit_of code) ≡ false → is_stud_game code ≡ false
 blinds_unfixed games.FT is = refl
 blinds_unfixed games.NT is = refl
 blinds_unfixed games.NS is = refl
@@ -483,21 +483,21 @@ blinds_unfixed games.N2L1D is = refl
 blinds_unfixed games.F2L3D is = refl
 blinds_unfixed games.FB is = refl
 
-some_bet : (setup : Setup) → IsValid setup → is_fixed (limit_of setup.code) ≡ false → 1 ≤ setup.min_bet
+some_bet : (setup : Setup) → IsValid setup → is_fixed_limit (limit_of setup.code) ≡ false → 1 ≤ setup.min_bet
 some_bet setup valid bounded = (subst (λ b. IsSizeWhere (not b) setup.min_bet) bounded valid.least_bet).0
 
-no_bring : (setup : Setup) → IsValid setup → is_stud setup.code ≡ false → setup.bring_in ≡ 0
+no_bring : (setup : Setup) → IsValid setup → is_stud_game setup.code ≡ false → setup.bring_in ≡ 0
 no_bring setup valid blinds = subst (λ b. IsSizeWhere b setup.bring_in) blinds valid.bring_in
 
-all_fit : (setup : Setup) (rules : Rules) (events : List Said) → IsValid setup → is_fixed (limit_of setup.code) ≡ false → AreLegal setup rules events → AreFitting setup (moves_of (past_of setup events))
+all_fit : (setup : Setup) (rules : Rules) (events : List Said) → IsValid setup → is_fixed_limit (limit_of setup.code) ≡ false → AreLegal setup rules events → AreFitting setup (moves_of (past_of setup events))
 all_fit setup rules events valid bounded legal =
     let blinds = blinds_unfixed setup.code bounded in
     fits_all setup rules blinds bounded (some_bet setup valid bounded) (no_bring setup valid blinds) events legal
 
-pub above_current_bet : (setup : Setup) (rules : Rules) (events : List Said) → IsValid setup → is_fixed (limit_of setup.code) ≡ false → AreLegal setup rules events → (reopens : Reopen) (street : ℕ) → current_bet setup (moves_of (past_of setup events)) street < floor reopens setup (moves_of (past_of setup events)) street
+pub above_current_bet : (setup : Setup) (rules : Rules) (events : List Said) → IsValid setup → is_fixed_limit (limit_of setup.code) ≡ false → AreLegal setup rules events → (reopens : Reopen) (street : ℕ) → current_bet setup (moves_of (past_of setup events)) street < floor reopens setup (moves_of (past_of setup events)) street
 above_current_bet setup rules events valid bounded legal reopens street =
     floor_above reopens setup (moves_of (past_of setup events)) street (some_bet setup valid bounded) (all_fit setup rules events valid bounded legal)
 
-pub within_full_raise : (setup : Setup) (rules : Rules) (events : List Said) → IsValid setup → is_fixed (limit_of setup.code) ≡ false → AreLegal setup rules events → (reopens : Reopen) (street : ℕ) → floor reopens setup (moves_of (past_of setup events)) street ≤ current_bet setup (moves_of (past_of setup events)) street + full_raise setup (moves_of (past_of setup events)) street
+pub within_full_raise : (setup : Setup) (rules : Rules) (events : List Said) → IsValid setup → is_fixed_limit (limit_of setup.code) ≡ false → AreLegal setup rules events → (reopens : Reopen) (street : ℕ) → floor reopens setup (moves_of (past_of setup events)) street ≤ current_bet setup (moves_of (past_of setup events)) street + full_raise setup (moves_of (past_of setup events)) street
 within_full_raise setup rules events valid bounded legal reopens street =
     floor_within reopens setup (moves_of (past_of setup events)) street (all_fit setup rules events valid bounded legal)

@@ -7,7 +7,7 @@ use Rattle.card_set.proofs.Tests.{either_still, both_known, false_true}
 use Rattle.card_set.specs.declared.card.Card.{Card}
 use Rattle.card_set.specs.declared.card.Slot.{Slot}
 use Rattle.card_set.specs.declared.card.Slot.TheVariants as slots
-use Rattle.card_set.specs.Known.{is_unknown}
+use Rattle.card_set.specs.Known.{hides_card}
 use Rattle.play_event.specs.Places.{Place, is_held_by, gone_now, folded_place, is_same_owner}
 use Rattle.play_event.specs.NameMatching.{matched_card, after_matching, is_named}
 use Rattle.play_event.specs.Taken.{is_clash, may_repeat, is_gone_before, is_one_card, newly_known}
@@ -19,7 +19,7 @@ pub record IsKept (count : ℕ) (old new : Place) : Type 0 where
   pub number : new.number ≡ old.number
   pub past_deck : new.past_deck ≡ old.past_deck
   pub gone_after : (new.gone_after ≡ old.gone_after) ⊎ ((old.gone_after ≡ None) × (new.gone_after ≡ Some count))
-  pub slot : (new.slot ≡ old.slot) ⊎ ((is_unknown old.slot ≡ true) × (is_unknown new.slot ≡ false))
+  pub slot : (new.slot ≡ old.slot) ⊎ ((hides_card old.slot ≡ true) × (hides_card new.slot ≡ false))
 
 pub kept_same : (count : ℕ) (place : Place) → IsKept count place place
 kept_same count place = record { number = refl; past_deck = refl; gone_after = inl refl; slot = inl refl }
@@ -81,7 +81,7 @@ comes_now count old new olds news kept = record {
   kept = kept;
   known = elim (kept.slot) [
     | inl same ↦ inl same
-    | inr fresh ↦ inr (now_known (is_unknown old.slot && not (is_unknown new.slot)) new (newly_known olds news) (both_known (is_unknown old.slot) (is_unknown new.slot) fresh.0 fresh.1))
+    | inr fresh ↦ inr (now_known (hides_card old.slot && not (hides_card new.slot)) new (newly_known olds news) (both_known (hides_card old.slot) (hides_card new.slot) fresh.0 fresh.1))
   ];
 }
 
@@ -92,7 +92,7 @@ comes_later count old new olds news place from = record {
   kept = from.kept;
   known = elim (from.known) [
     | inl same ↦ inl same
-    | inr fresh ↦ inr (later_known (is_unknown old.slot && not (is_unknown new.slot)) new (newly_known olds news) place fresh)
+    | inr fresh ↦ inr (later_known (hides_card old.slot && not (hides_card new.slot)) new (newly_known olds news) place fresh)
   ];
 }
 
@@ -133,10 +133,10 @@ gone_marked count mark is place there = elim (is.gone_after place) [
 marked_kept : (count : ℕ) (mark : Place → Place) → IsMark count mark → (place : Place) → place.gone_after ≡ None → IsKept count place (mark place)
 marked_kept count mark is place there = record { number = is.number place; past_deck = is.past_deck place; gone_after = gone_marked count mark is place there; slot = inl (is.slot place) }
 
-known_kept : (count : ℕ) (mark : Place → Place) → IsMark count mark → (place : Place) (card : Card) → place.gone_after ≡ None → is_unknown place.slot ≡ true → IsKept count place (mark (record place { slot = slots.Known card }))
+known_kept : (count : ℕ) (mark : Place → Place) → IsMark count mark → (place : Place) (card : Card) → place.gone_after ≡ None → hides_card place.slot ≡ true → IsKept count place (mark (record place { slot = slots.Known card }))
 known_kept count mark is place card there unknown =
     let named : Place = record place { slot = slots.Known card } in
-    record { number = is.number named; past_deck = is.past_deck named; gone_after = gone_marked count mark is named there; slot = inr (unknown, ap is_unknown (is.slot named)) }
+    record { number = is.number named; past_deck = is.past_deck named; gone_after = gone_marked count mark is named there; slot = inr (unknown, ap hides_card (is.slot named)) }
 
 maybe_marked : (count : ℕ) (mark : Place → Place) → IsMark count mark → (place : Place) (b : Bool) → place.gone_after ≡ None → IsKept count place (if b then mark place else place)
 maybe_marked count mark is place true there = marked_kept count mark is place there
@@ -144,7 +144,7 @@ maybe_marked count mark is place false there = kept_same count place
 
 found_kept : (count : ℕ) (mark : Place → Place) → IsMark count mark → (names : List Card) (slot : Slot) (others : List Card) (blanks : ℕ) (place : Place) → place.slot ≡ slot → place.gone_after ≡ None → IsKept count place (matched_card mark names slot others blanks place).place
 found_kept count mark is names (slots.Known card) others blanks place here there = maybe_marked count mark is place (is_named card names) there
-found_kept count mark is names slots.Unknown (card ∷ others) blanks place here there = known_kept count mark is place card there (ap is_unknown here)
+found_kept count mark is names slots.Unknown (card ∷ others) blanks place here there = known_kept count mark is place card there (ap hides_card here)
 found_kept count mark is names slots.Unknown [] zero place here there = kept_same count place
 found_kept count mark is names slots.Unknown [] (suc blanks) place here there = marked_kept count mark is place there
 

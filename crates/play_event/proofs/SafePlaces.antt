@@ -16,7 +16,7 @@ use Rattle.play_event.specs.Said.{Said}
 use Rattle.play_event.specs.Past.{Past, moves_of}
 use Rattle.play_event.specs.Due.{turn}
 use Rattle.play_event.specs.Openers.{InTurn}
-use Rattle.card_set.specs.Known.{is_unknown, known_cards}
+use Rattle.card_set.specs.Known.{hides_card, known_among}
 use Rattle.play_event.specs.PlayerToAct.{player_to_act}
 use Rattle.play_event.specs.Places.{Place, is_held_by, is_up, places_dealt, after_deal, after_fold, is_past_deck, is_in_group, folded_place, gone_now}
 use Rattle.play_event.specs.NameMatching.{after_discard, after_show, discarded_now, unmatched_names, blanks_in, can_be_named, is_show_of_all}
@@ -71,8 +71,8 @@ deal_safe code owner street cards placed free safe =
     (deal_none_clash code owner street cards placed safe.1 free safe.0, deal_gone_within code owner street cards placed safe.1)
 
 -- a fold makes no card known
-as_known : (old new : Slot) → new ≡ old → (is_unknown old && not (is_unknown new)) ≡ false
-as_known slots.Unknown new same = ap (λ s. not (is_unknown s)) same
+as_known : (old new : Slot) → new ≡ old → (hides_card old && not (hides_card new)) ≡ false
+as_known slots.Unknown new same = ap (λ s. not (hides_card s)) same
 as_known (slots.Known card) new same = refl
 
 folded_slot : (b : Bool) (count : ℕ) (place : Place) → (if b then gone_now count place else place).slot ≡ place.slot
@@ -100,7 +100,7 @@ show_mark count = record { slot = λ place. refl; number = λ place. refl; past_
 discard_safe : (code : Code) (street seat : ℕ) (names : List Slot) (placed : List Place) → has_misplaced_card code placed (after_discard street seat names placed) ≡ false → Safe placed → Safe (after_discard street seat names placed)
 discard_safe code street seat names placed fits safe =
     kept_safe code placed (after_discard street seat names placed)
-    (names_keep (length placed) (is_held_by seat) (discarded_now street (length placed)) (discard_mark street (length placed)) (held_is_there seat) (known_cards names) (unmatched_names (filter (is_held_by seat) placed) (known_cards names)) (blanks_in names) placed)
+    (names_keep (length placed) (is_held_by seat) (discarded_now street (length placed)) (discard_mark street (length placed)) (held_is_there seat) (known_among names) (unmatched_names (filter (is_held_by seat) placed) (known_among names)) (blanks_in names) placed)
     fits safe
 
 covered_is_there : (code : Code) (seat : ℕ) (all : Bool) (place : Place) → can_be_named code seat all place ≡ true → place.gone_after ≡ None

@@ -4,7 +4,7 @@
 use Rattle.std.specs.Prelude.{ℕ, Bool, ◌&&◌, ◌==◌, nat_le, if◌then◌else◌, List, [], ◌∷◌, ◌++◌, map, filter, flat_map, reverse, Option, Some, None}
 use Rattle.std.specs.List.{list_any}
 use Rattle.card_set.specs.declared.card.Slot.{Slot}
-use Rattle.card_set.specs.Known.{known_cards}
+use Rattle.card_set.specs.Known.{known_among}
 use Rattle.play_event.specs.declared.event.Spelled.TheVariants as spelled
 use Rattle.play_event.specs.declared.setup.Setup.{Setup}
 use Rattle.play_event.specs.Streets.{has_draw}
@@ -56,7 +56,7 @@ deal_said seat (slot ∷ rest) = Hole seat (slot ∷ rest) ∷ []
 -- the deal of these cards to the board, if there are any
 abbrev pub board_said : List Slot → List Said
 board_said [] = []
-board_said (slot ∷ rest) = Board (known_cards (slot ∷ rest)) ∷ []
+board_said (slot ∷ rest) = Board (known_among (slot ∷ rest)) ∷ []
 
 -- the deals of a street: one event for each seat, and one for the board
 abbrev pub deals_said : Setup → List TracedPlace → ℕ → List Said
@@ -106,7 +106,7 @@ street_said setup placed moves street =
 abbrev pub showing_said : List TracedPlace → List ℕ → ℕ → Said
 showing_said placed shown seat =
     if list_any (λ other. other == seat) shown
-    then Show seat (known_cards (held_slots placed seat))
+    then Show seat (known_among (held_slots placed seat))
     else Muck seat
 
 -- the showdown of a contested hand

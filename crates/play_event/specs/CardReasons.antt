@@ -12,7 +12,7 @@ use Rattle.play_event.specs.Said.{Said}
 use Rattle.play_event.specs.Past.{Past}
 use Rattle.play_event.specs.Dealing.{cards_owed, board_cards_owed, next_to_draw}
 use Rattle.play_event.specs.Showing.{has_to_show}
-use Rattle.card_set.specs.Known.{is_unknown, known_cards, known_slots}
+use Rattle.card_set.specs.Known.{hides_card, known_among, known_slots}
 use Rattle.play_event.specs.Places.{Place, is_held_by}
 use Rattle.play_event.specs.NameMatching.{unmatched_names, is_named, blanks_in, held_count, held_down_count, can_be_named, is_show_of_all, after_discard, after_show}
 use Rattle.play_event.specs.Table.{up_cards}
@@ -46,7 +46,7 @@ abbrev pub may_show_so_many : Setup → Past → List Place → ℕ → ℕ → 
 may_show_so_many setup past placed seat count =
     (count == held_count placed seat)
     || ((count == held_down_count setup.code placed seat)
-    && not (list_any is_unknown (up_cards setup.code past seat)))
+    && not (list_any hides_card (up_cards setup.code past seat)))
 
 -- an event has a number of cards that it may not have
 abbrev pub is_wrong_count : Setup → Past → List Place → ℕ → Said → Bool
@@ -76,7 +76,7 @@ is_card_taken code placed street _ = false
 -- blanks, are together more than its unknown cards
 abbrev pub has_no_place : List Place → List Card → ℕ → Bool
 has_no_place covered names blanks =
-    nat_lt (count_by (λ place. is_unknown place.slot) covered)
+    nat_lt (count_by (λ place. hides_card place.slot) covered)
     (length (unmatched_names covered names) + blanks)
 
 -- a known card is not named
@@ -92,7 +92,7 @@ is_show_of_others covered names =
 -- a card is named that the seat does not hold
 abbrev pub is_not_held : Code → List Place → Said → Bool
 is_not_held code placed (said.Discard seat cards) =
-    has_no_place (filter (is_held_by seat) placed) (known_cards cards) (blanks_in cards)
+    has_no_place (filter (is_held_by seat) placed) (known_among cards) (blanks_in cards)
 is_not_held code placed (said.Show seat cards) =
     is_show_of_others (filter (can_be_named code seat (is_show_of_all placed seat cards)) placed)
     cards

@@ -2,7 +2,7 @@
 use Rattle.std.specs.Prelude.{ℕ, ◌+◌, ◌-◌, ◌*◌, ◌&&◌, ◌||◌, ◌==◌, nat_le, max, if◌then◌else◌, List, [], ◌∷◌, map, sum}
 use Rattle.chip_ledger.specs.Greatest.{greatest}
 use Rattle.play_event.specs.declared.setup.Setup.{Setup}
-use Rattle.play_event.specs.Past.{Move, is_raise, is_bring_in}
+use Rattle.play_event.specs.Past.{Move, is_raising, is_bringing_in}
 use Rattle.play_event.specs.Streets.{unit}
 use Rattle.play_event.specs.Chips.{chips_put, street_chips}
 use Rattle.play_event.specs.Seats.{all_seats}
@@ -26,7 +26,7 @@ rise setup move before = move.to - current_bet setup before move.street
 abbrev pub full_raise : Setup → List Move → ℕ → ℕ
 full_raise setup [] street = setup.min_bet
 full_raise setup (move ∷ before) street =
-    if (move.street == street) && is_raise move.act
+    if (move.street == street) && is_raising move.act
     && nat_le (full_raise setup before street) (rise setup move before)
     then max (rise setup move before) (full_raise setup before street)
     else full_raise setup before street
@@ -36,7 +36,7 @@ full_raise setup (move ∷ before) street =
 abbrev pub doubled_raises : Setup → List Move → ℕ → List ℕ
 doubled_raises setup [] street = []
 doubled_raises setup (move ∷ before) street =
-    if (move.street == street) && is_raise move.act
+    if (move.street == street) && is_raising move.act
     then (2 * move.to - current_bet setup before street) ∷ doubled_raises setup before street
     else doubled_raises setup before street
 
@@ -54,7 +54,7 @@ full_bet setup [] street =
     then starting_bet setup street
     else 0
 full_bet setup (move ∷ before) street =
-    if (move.street == street) && (is_raise move.act || is_bring_in move.act)
+    if (move.street == street) && (is_raising move.act || is_bringing_in move.act)
     && nat_le (full_bet setup before street + unit setup street) move.to
     then move.to
     else full_bet setup before street

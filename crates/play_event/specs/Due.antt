@@ -7,8 +7,8 @@ use Rattle.play_event.specs.declared.reason.Due.{Due}
 use Rattle.play_event.specs.declared.reason.Due.TheVariants as dues
 use Rattle.play_event.specs.declared.setup.Setup.{Setup}
 use Rattle.play_event.specs.Games.{street_count}
-use Rattle.play_event.specs.Streets.{is_stud}
-use Rattle.play_event.specs.Past.{Past, Move, Act, moves_of, moves_on, newest_street, is_raise, is_bring_in}
+use Rattle.play_event.specs.Streets.{is_stud_game}
+use Rattle.play_event.specs.Past.{Past, Move, Act, moves_of, moves_on, newest_street, is_raising, is_bringing_in}
 use Rattle.play_event.specs.Seats.{can_act, all_seats, live_count, able_count}
 use Rattle.play_event.specs.CurrentBet.{current_bet, to_call}
 use Rattle.play_event.specs.Dealing.{is_deal_due, is_draw_due}
@@ -40,13 +40,13 @@ is_move_due setup moves street = list_any (has_to_move setup moves street) (all_
 
 -- the act opens the betting: it is a bring-in, a bet or a raise
 abbrev pub has_opened_betting : Act → Bool
-has_opened_betting act = is_raise act || is_bring_in act
+has_opened_betting act = is_raising act || is_bringing_in act
 
 -- a bring-in is due: on the first street of stud, if at least two live seats have chips left,
 -- before any bring-in or raise
 abbrev pub is_bring_in_due : Setup → List Move → ℕ → Bool
 is_bring_in_due setup moves street =
-    is_stud setup.code && (street == 1) && nat_le 2 (able_count setup moves)
+    is_stud_game setup.code && (street == 1) && nat_le 2 (able_count setup moves)
     && not (list_any (λ move. has_opened_betting move.act) (moves_on street moves))
 
 -- what is due on this street, if something is

@@ -15,7 +15,7 @@ use Rattle.play_event.specs.Due.{turn}
 use Rattle.play_event.specs.Openers.{TheSeat}
 use Rattle.play_event.specs.PlayerToAct.{player_to_act}
 use Rattle.play_event.specs.Table.{up_cards}
-use Rattle.play_event.specs.ValidSetup.{IsValid, is_fixed}
+use Rattle.play_event.specs.ValidSetup.{IsValid, is_fixed_limit}
 use Rattle.play_event.specs.Places.{Place}
 use Rattle.play_event.specs.Taken.{is_clash}
 use Rattle.play_event.specs.Reasons.{why}
@@ -41,7 +41,7 @@ AreLegal setup rules (event ∷ before) =
 -- legal events of a valid setup in no limit or pot limit
 pub record AreLegalUnfixed (setup : Setup) (rules : Rules) (events : List Said) : Type 0 where
   pub valid : IsValid setup
-  pub unfixed : is_fixed (limit_of setup.code) ≡ false
+  pub unfixed : is_fixed_limit (limit_of setup.code) ≡ false
   pub legal : AreLegal setup rules events
 
 -- the moves among events, the newest first

@@ -9,7 +9,7 @@ use Rattle.card_set.specs.declared.card.Slot.{Slot}
 use Rattle.card_set.specs.declared.card.Slot.TheVariants as slots
 use Rattle.card_set.specs.Deck.{is_same_card}
 use Rattle.play_event.specs.declared.code.Code.{Code}
-use Rattle.card_set.specs.Known.{is_unknown, known_cards}
+use Rattle.card_set.specs.Known.{hides_card, known_among}
 use Rattle.play_event.specs.Places.{Place, is_held_by, is_up}
 
 -- ---- the names
@@ -44,11 +44,11 @@ named_count names (dealt ∷ rest) =
 -- how many of these dealt cards are unknown
 abbrev pub unknown_count : List Place → ℕ
 unknown_count [] = 0
-unknown_count (dealt ∷ rest) = (if is_unknown dealt.slot then 1 else 0) + unknown_count rest
+unknown_count (dealt ∷ rest) = (if hides_card dealt.slot then 1 else 0) + unknown_count rest
 
 -- how many of the discarded cards are blanks, that is, cards that the event does not name
 abbrev pub blanks_in : List Slot → ℕ
-blanks_in names = count_by is_unknown names
+blanks_in names = count_by hides_card names
 
 -- ---- matching
 
@@ -100,8 +100,8 @@ discarded_now street count dealt = record dealt { gone_after = Some count; disca
 -- the dealt cards after a discard: it may mean any card that the seat holds
 abbrev pub after_discard : ℕ → ℕ → List Slot → List Place → List Place
 after_discard street seat names placed =
-    after_matching (is_held_by seat) (discarded_now street (length placed)) (known_cards names)
-    (unmatched_names (filter (is_held_by seat) placed) (known_cards names)) (blanks_in names) placed
+    after_matching (is_held_by seat) (discarded_now street (length placed)) (known_among names)
+    (unmatched_names (filter (is_held_by seat) placed) (known_among names)) (blanks_in names) placed
 
 -- ---- a show
 

@@ -4,7 +4,7 @@ use Rattle.std.specs.List.{list_any}
 use Rattle.card_set.specs.declared.card.Card.{Card}
 use Rattle.card_set.specs.declared.card.Slot.{Slot}
 use Rattle.card_set.specs.Deck.{deck_index, suits_before}
-use Rattle.card_set.specs.Known.{is_unknown, known_cards}
+use Rattle.card_set.specs.Known.{hides_card, known_among}
 use Rattle.card_set.specs.Ranks.{high_ace, low_ace, ranks_of}
 use Rattle.card_set.specs.UpCards.{up_high_class, low_class}
 use Rattle.chip_ledger.specs.Greatest.{greatest}
@@ -111,14 +111,14 @@ up_cards_opener setup ups moves street =
     (list_any
     (λ other.
     is_opener_before (opener_of setup.code) (street == 1)
-    (known_cards (ups other)) (known_cards (ups seat)))
+    (known_among (ups other)) (known_among (ups seat)))
     (able_seats setup moves)))
     (able_seats setup moves)
 
 -- an up-card of a live seat with chips left is unknown
 abbrev pub has_unknown_up_card : Setup → UpCards → List Move → Bool
 has_unknown_up_card setup ups moves =
-    list_any (λ seat. list_any is_unknown (ups seat)) (able_seats setup moves)
+    list_any (λ seat. list_any hides_card (ups seat)) (able_seats setup moves)
 
 -- who acts first on a street
 abbrev pub opener_by : Opener → Setup → UpCards → List Move → ℕ → InTurn

@@ -65,22 +65,22 @@ abbrev pub moves_before : ℕ → List Move → List Move
 moves_before street moves = filter (λ move. nat_lt move.street street) moves
 
 -- the move is a fold
-abbrev pub is_fold : Act → Bool
-is_fold Folded = true
-is_fold Called = false
-is_fold Raised = false
-is_fold BroughtIn = false
+abbrev pub is_folding : Act → Bool
+is_folding Folded = true
+is_folding Called = false
+is_folding Raised = false
+is_folding BroughtIn = false
 
 -- the move is a bet or raise
-abbrev pub is_raise : Act → Bool
-is_raise Raised = true
-is_raise Folded = false
-is_raise Called = false
-is_raise BroughtIn = false
+abbrev pub is_raising : Act → Bool
+is_raising Raised = true
+is_raising Folded = false
+is_raising Called = false
+is_raising BroughtIn = false
 
 -- the move is a bring-in
-abbrev pub is_bring_in : Act → Bool
-is_bring_in BroughtIn = true
-is_bring_in Folded = false
-is_bring_in Called = false
-is_bring_in Raised = false
+abbrev pub is_bringing_in : Act → Bool
+is_bringing_in BroughtIn = true
+is_bringing_in Folded = false
+is_bringing_in Called = false
+is_bringing_in Raised = false

@@ -15,18 +15,18 @@ pub record IsPlayed (setup : Setup) (rules : Rules) (script : List Said) : Type 
   pub complete : has_early_end setup script ≡ false
 
 -- an event is a move
-abbrev pub is_move : Said → Bool
-is_move (said.Fold actor) = true
-is_move (said.Call actor stated) = true
-is_move (said.Raise actor amount) = true
-is_move (said.BringIn actor) = true
-is_move (said.Hole seat cards) = false
-is_move (said.Board cards) = false
-is_move (said.Discard seat cards) = false
-is_move (said.Show seat cards) = false
-is_move (said.Muck seat) = false
+abbrev pub is_move_event : Said → Bool
+is_move_event (said.Fold actor) = true
+is_move_event (said.Call actor stated) = true
+is_move_event (said.Raise actor amount) = true
+is_move_event (said.BringIn actor) = true
+is_move_event (said.Hole seat cards) = false
+is_move_event (said.Board cards) = false
+is_move_event (said.Discard seat cards) = false
+is_move_event (said.Show seat cards) = false
+is_move_event (said.Muck seat) = false
 
 -- a script has no more moves and no more other events than a hand may have
 pub record IsWithinLimits (script : List Said) : Type 0 where
-  pub moves : count_by is_move script ≤ MOST_MOVES
-  pub others : count_by (λ event. not (is_move event)) script ≤ MOST_OTHER_EVENTS
+  pub moves : count_by is_move_event script ≤ MOST_MOVES
+  pub others : count_by (λ event. not (is_move_event event)) script ≤ MOST_OTHER_EVENTS

@@ -8,7 +8,7 @@ use Rattle.play_event.specs.declared.setup.Reopen.TheVariants as reopen
 use Rattle.play_event.specs.declared.limit.Limit.{Limit}
 use Rattle.play_event.specs.declared.limit.Limit.TheVariants as limits
 use Rattle.play_event.specs.Streets.{limit_of, unit}
-use Rattle.play_event.specs.Past.{Move, is_raise, moves_on}
+use Rattle.play_event.specs.Past.{Move, is_raising, moves_on}
 use Rattle.play_event.specs.Chips.{all_in}
 use Rattle.play_event.specs.Seats.{can_act, all_seats}
 use Rattle.play_event.specs.CurrentBet.{current_bet, to_call, full_raise}
@@ -20,7 +20,7 @@ has_moved moves street seat = list_any (λ move. move.seat == seat) (moves_on st
 
 -- how many raises there were on this street
 abbrev pub raises_on : List Move → ℕ → ℕ
-raises_on moves street = count_by (λ move. is_raise move.act) (moves_on street moves)
+raises_on moves street = count_by (λ move. is_raising move.act) (moves_on street moves)
 
 -- there are fewer raises on this street than its cap allows; a street after the fourth is not
 -- capped

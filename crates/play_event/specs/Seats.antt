@@ -3,16 +3,16 @@ use Rattle.std.specs.Prelude.{ℕ, Bool, ◌&&◌, ◌==◌, not, nat_lt, List, 
 use Rattle.std.specs.List.{list_any}
 use Rattle.chip_ledger.specs.Seat.{seats_of}
 use Rattle.play_event.specs.declared.setup.Setup.{Setup}
-use Rattle.play_event.specs.Past.{Move, is_fold}
+use Rattle.play_event.specs.Past.{Move, is_folding}
 use Rattle.play_event.specs.Chips.{chips_left}
 
 -- a move folds a seat
 abbrev pub is_fold_of : ℕ → Move → Bool
-is_fold_of seat move = is_fold move.act && (move.seat == seat)
+is_fold_of seat move = is_folding move.act && (move.seat == seat)
 
 -- a seat is live: it has not folded
 abbrev pub is_live : List Move → ℕ → Bool
-is_live moves seat = not (list_any (λ move. is_fold move.act && (move.seat == seat)) moves)
+is_live moves seat = not (list_any (λ move. is_folding move.act && (move.seat == seat)) moves)
 
 -- a seat is able to act: it is live and has chips left
 abbrev pub can_act : Setup → List Move → ℕ → Bool

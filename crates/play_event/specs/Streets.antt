@@ -61,5 +61,5 @@ is_opened_by_up_cards openers.LowUp = true
 is_opened_by_up_cards openers.HighUp = true
 
 -- the game is a stud game
-abbrev pub is_stud : Code → Bool
-is_stud code = is_opened_by_up_cards (opener_of code)
+abbrev pub is_stud_game : Code → Bool
+is_stud_game code = is_opened_by_up_cards (opener_of code)

@@ -3,7 +3,7 @@
 use Rattle.std.specs.Prelude.{if◌then◌else◌, List, [], ◌∷◌, Some, None}
 use Rattle.card_set.specs.Known.{known_slots}
 use Rattle.play_event.specs.declared.code.Code.{Code}
-use Rattle.play_event.specs.Past.{Past, Resolved, Dealt, Boarded, Moved, Discarded, Shown, Mucked, is_fold}
+use Rattle.play_event.specs.Past.{Past, Resolved, Dealt, Boarded, Moved, Discarded, Shown, Mucked, is_folding}
 use Rattle.play_event.specs.Openers.{UpCards}
 use Rattle.play_event.specs.Places.{Place, after_deal, after_fold, up_slots}
 use Rattle.play_event.specs.NameMatching.{after_discard, after_show}
@@ -14,7 +14,7 @@ places_after code (Dealt street seat cards) placed = after_deal code (Some seat)
 places_after code (Boarded street cards) placed =
     after_deal code None street (known_slots cards) placed
 places_after code (Moved move) placed =
-    if is_fold move.act then after_fold move.seat placed else placed
+    if is_folding move.act then after_fold move.seat placed else placed
 places_after code (Discarded street seat cards) placed = after_discard street seat cards placed
 places_after code (Shown street seat cards) placed = after_show code seat cards placed
 places_after code (Mucked street seat) placed = placed

@@ -8,7 +8,7 @@ use Rattle.card_set.specs.declared.card.Slot.TheVariants as slots
 use Rattle.card_set.specs.Deck.{ranks_below, is_same_card}
 use Rattle.play_event.specs.declared.code.Code.{Code}
 use Rattle.play_event.specs.Streets.{deck_of}
-use Rattle.card_set.specs.Known.{is_unknown}
+use Rattle.card_set.specs.Known.{hides_card}
 use Rattle.play_event.specs.Places.{Place, is_past_deck}
 
 -- the deck of the game has this card: a deck of 36 begins with the sixes
@@ -69,7 +69,7 @@ abbrev pub newly_known : (before after : List Place) → List Place
 newly_known [] after = []
 newly_known (old ∷ olds) [] = []
 newly_known (old ∷ olds) (new ∷ news) =
-    if is_unknown old.slot && not (is_unknown new.slot)
+    if hides_card old.slot && not (hides_card new.slot)
     then (new ∷ newly_known olds news)
     else newly_known olds news
 

@@ -1,7 +1,7 @@
 -- Tidy traces: cards that must be known are known, and no event needs more cards than a row holds.
 use Rattle.std.specs.Prelude.{◌≡◌, ℕ, ◌≤◌, ◌&&◌, ◌==◌, true, false, length, Option, None}
 use Rattle.std.specs.List.{list_any}
-use Rattle.card_set.specs.Known.{is_unknown}
+use Rattle.card_set.specs.Known.{hides_card}
 use Rattle.play_event.specs.Places.{is_same_owner}
 use Rattle.play_event.specs.declared.hand_limits.TheConstants.{MOST_MOVES}
 use Rattle.play_event.specs.TraceCore.{TraceCore}
@@ -12,10 +12,10 @@ use Rattle.play_event.specs.CanonScript.{dealt_slots, discarded_slots, held_slot
 -- than seven.
 pub record HasTidyCards (trace : TraceCore) : Type 0 where
   pub board_known :
-      list_any (λ place. is_same_owner place.owner None && is_unknown place.slot) trace.places
+      list_any (λ place. is_same_owner place.owner None && hides_card place.slot) trace.places
       ≡ false
   pub shown_known : (seat : ℕ) → list_any (λ other. other == seat) trace.shown ≡ true
-      → list_any is_unknown (held_slots trace.places seat) ≡ false
+      → list_any hides_card (held_slots trace.places seat) ≡ false
   pub dealt_few : (owner : Option ℕ) (street : ℕ)
       → length (dealt_slots trace.places owner street) ≤ 7
   pub discards_few : (seat street : ℕ) → 1 ≤ street

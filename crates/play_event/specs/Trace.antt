@@ -8,13 +8,13 @@ use Rattle.play_event.specs.declared.limit.Limit.{Limit}
 use Rattle.play_event.specs.declared.limit.Limit.TheVariants as limits
 use Rattle.play_event.specs.Games.{street_count}
 use Rattle.play_event.specs.Streets.{limit_of}
-use Rattle.play_event.specs.Past.{Past, Move, Act, moves_of, is_raise}
+use Rattle.play_event.specs.Past.{Past, Move, Act, moves_of, is_raising}
 use Rattle.play_event.specs.Seats.{is_live, live_count, all_seats}
 use Rattle.play_event.specs.CurrentBet.{current_bet}
 use Rattle.play_event.specs.Amounts.{unit_target}
 use Rattle.play_event.specs.Raising.{is_closed}
 use Rattle.play_event.specs.Showing.{has_mucked}
-use Rattle.card_set.specs.Known.{is_unknown}
+use Rattle.card_set.specs.Known.{hides_card}
 use Rattle.play_event.specs.Places.{Place, is_in_group, is_held_by}
 use Rattle.play_event.specs.Table.{places_of}
 
@@ -47,7 +47,7 @@ traced_move setup move before =
       from = move.from;
       to = move.to;
       price = current_bet setup before move.street;
-      closed = is_raise move.act && is_closed setup before move.street move.seat move.to;
+      closed = is_raising move.act && is_closed setup before move.street move.seat move.to;
       unit_to = unit_target_in (limit_of setup.code) setup before move.street move.seat;
     }
 
@@ -103,7 +103,7 @@ is_contested setup past = nat_le 2 (live_count setup (moves_of past))
 -- a card that a seat holds is unknown
 abbrev pub has_unknown_card : Setup → Past → ℕ → Bool
 has_unknown_card setup past seat =
-    list_any (λ place. is_held_by seat place && is_unknown place.slot) (places_of setup.code past)
+    list_any (λ place. is_held_by seat place && hides_card place.slot) (places_of setup.code past)
 
 -- a live seat of a contested hand is shown if it did not muck and all its cards are known
 abbrev pub is_shown : Setup → Past → ℕ → Bool

@@ -9,7 +9,7 @@ use Rattle.play_event.specs.declared.setup.Setup.{Setup}
 use Rattle.play_event.specs.declared.limit.Limit.{Limit}
 use Rattle.play_event.specs.declared.limit.Limit.TheVariants as limits
 use Rattle.play_event.specs.Games.{game_of}
-use Rattle.play_event.specs.Streets.{limit_of, is_stud}
+use Rattle.play_event.specs.Streets.{limit_of, is_stud_game}
 use Rattle.play_event.specs.Seats.{all_seats}
 
 -- a stack or a bet size: at least one chip
@@ -22,10 +22,10 @@ IsSizeWhere true chips = IsSize chips
 IsSizeWhere false chips = chips ≡ 0
 
 -- the limit is fixed
-abbrev pub is_fixed : Limit → Bool
-is_fixed limits.Fixed = true
-is_fixed limits.Pot = false
-is_fixed limits.No = false
+abbrev pub is_fixed_limit : Limit → Bool
+is_fixed_limit limits.Fixed = true
+is_fixed_limit limits.Pot = false
+is_fixed_limit limits.No = false
 
 -- some seat posts an ante
 abbrev pub has_antes : Setup → Bool
@@ -40,11 +40,11 @@ pub record IsValid (setup : Setup) : Type 0 where
       → IsSize (amount_of setup.stacks seat)
   pub antes : (seat : ℕ) → amount_of setup.antes seat ≤ amount_of setup.stacks seat
   pub blinds : (seat : ℕ) → amount_of setup.blinds seat ≤ MOST_CHIPS
-  pub bring_in : IsSizeWhere (is_stud setup.code) setup.bring_in
-  pub small_bet : IsSizeWhere (is_fixed (limit_of setup.code)) setup.small_bet
-  pub big_bet : IsSizeWhere (is_fixed (limit_of setup.code)) setup.big_bet
-  pub least_bet : IsSizeWhere (not (is_fixed (limit_of setup.code))) setup.min_bet
+  pub bring_in : IsSizeWhere (is_stud_game setup.code) setup.bring_in
+  pub small_bet : IsSizeWhere (is_fixed_limit (limit_of setup.code)) setup.small_bet
+  pub big_bet : IsSizeWhere (is_fixed_limit (limit_of setup.code)) setup.big_bet
+  pub least_bet : IsSizeWhere (not (is_fixed_limit (limit_of setup.code))) setup.min_bet
   pub dead_antes : setup.dead_antes ≡ true → has_antes setup ≡ true
   pub heads_up : setup.stacks.seats ≡ 2 → amount_of setup.blinds 2 ≤ amount_of setup.blinds 1
-  pub stud : is_stud setup.code ≡ true → (seat : ℕ) → amount_of setup.blinds seat ≡ 0
+  pub stud : is_stud_game setup.code ≡ true → (seat : ℕ) → amount_of setup.blinds seat ≡ 0
   pub rakes : (pot : ℕ) → rake_of setup.rakes pot ≤ MOST_AMOUNT

@@ -3,8 +3,8 @@ ghost use Rattle.std.specs.Prelude.{◌≡◌, ◌≤◌, IfSome, IfNone};
 ghost use Rattle.play_event.specs.declared.code.Code.{Code};
 ghost use Rattle.play_event.specs.Code.{code_text};
 ghost use Rattle.play_event.specs.Games.{game_of};
-ghost use Rattle.play_event.specs.Streets.{is_stud, limit_of};
-ghost use Rattle.play_event.specs.ValidSetup.{is_fixed};
+ghost use Rattle.play_event.specs.Streets.{is_stud_game, limit_of};
+ghost use Rattle.play_event.specs.ValidSetup.{is_fixed_limit};
 
 use crate::limit::Limit;
 
@@ -91,7 +91,7 @@ impl Code {
 
     /// Whether the game is played in fixed limit, with a small and a big bet.
     pub fn is_fixed(self) -> bool
-        ensures { result ≡ is_fixed (limit_of self) }
+        ensures { result ≡ is_fixed_limit (limit_of self) }
     {
         match self.limit() {
             Limit::Fixed => true,
@@ -101,7 +101,7 @@ impl Code {
 
     /// Whether the game is a stud game, which has a bring-in and no blinds.
     pub fn is_stud(self) -> bool
-        ensures { result ≡ is_stud self }
+        ensures { result ≡ is_stud_game self }
     {
         match self {
             Code::F7S | Code::F7S8 | Code::FR => true,

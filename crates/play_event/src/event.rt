@@ -1,6 +1,6 @@
 //! An event is one thing that happened in a hand, as its notation reports it.
 ghost use Rattle.std.specs.Prelude.{◌≡◌};
-ghost use Rattle.play_event.specs.PlayedScript.{is_move};
+ghost use Rattle.play_event.specs.PlayedScript.{is_move_event};
 ghost use Rattle.play_event.specs.Said.{kind_said};
 
 use card_set::{CardRow, SlotRow};
@@ -64,7 +64,7 @@ pub enum Kind {
 impl Kind {
     /// Whether it is a move: a fold, a call, a raise or a bring-in.
     pub fn is_move(self) -> bool
-        ensures { result ≡ is_move (kind_said self) }
+        ensures { result ≡ is_move_event (kind_said self) }
     {
         match self {
             Kind::Fold { .. } | Kind::Call { .. } => true,

@@ -1,6 +1,6 @@
 //! What was played, as the trace of a hand keeps it: a move with its amounts, and a dealt card.
 ghost use Rattle.std.specs.Prelude.{◌≡◌};
-ghost use Rattle.play_event.specs.Past.{is_bring_in, is_fold, is_raise};
+ghost use Rattle.play_event.specs.Past.{is_bringing_in, is_folding, is_raising};
 ghost use Rattle.play_event.specs.Played.{act_said};
 
 use card_set::Slot;
@@ -20,7 +20,7 @@ pub enum Act {
 impl Act {
     /// Whether it is a fold.
     pub fn is_fold(self) -> bool
-        ensures { result ≡ is_fold (act_said self) }
+        ensures { result ≡ is_folding (act_said self) }
     {
         match self {
             Act::Fold => true,
@@ -30,7 +30,7 @@ impl Act {
 
     /// Whether it is a bet or a raise.
     pub fn is_raise(self) -> bool
-        ensures { result ≡ is_raise (act_said self) }
+        ensures { result ≡ is_raising (act_said self) }
     {
         match self {
             Act::Raise => true,
@@ -40,7 +40,7 @@ impl Act {
 
     /// Whether it is a bring-in.
     pub fn is_bring_in(self) -> bool
-        ensures { result ≡ is_bring_in (act_said self) }
+        ensures { result ≡ is_bringing_in (act_said self) }
     {
         match self {
             Act::BringIn => true,

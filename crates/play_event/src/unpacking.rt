@@ -7,7 +7,7 @@ ghost use Rattle.play_event.specs.Said.{kind_said, seat_named, numbered};
 ghost use Rattle.play_event.specs.PackedReading.{byte_at, number_at, counted_at, seat_numbered, seat_at, actor_at, card_of, slot_of, slots_at, cards_at, stated_at, amount_at, move_at, hand_at, kind_at, event_at};
 
 use crate::event::{Event, Kind, Spelled};
-use card_set::{Card, CardRow, Slot, SlotRow, card_with_index};
+use card_set::{Card, CardRow, Slot, SlotRow, card_from_index};
 use chip_ledger::Seat;
 
 /// The event at the front of the bytes and the bytes after it, or `None` if the bytes do not begin
@@ -236,5 +236,5 @@ fn read_byte(bytes: &[u8]) -> Option<(u8, &[u8])>
 fn card_named(byte: u8) -> Card
     ensures { result ≡ card_of byte }
 {
-    card_with_index(byte.saturating_sub(1))
+    card_from_index(byte.saturating_sub(1))
 }

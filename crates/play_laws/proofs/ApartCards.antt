@@ -6,7 +6,7 @@ use Rattle.card_set.specs.declared.card.Slot.{Slot}
 use Rattle.card_set.specs.declared.card.Slot.TheVariants as slots
 use Rattle.card_set.specs.Deck.{is_same_card}
 use Rattle.card_set.specs.Different.{AllDifferent, Lacks}
-use Rattle.card_set.specs.Known.{known_cards}
+use Rattle.card_set.specs.Known.{known_among}
 use Rattle.card_set.proofs.DeckLaws.{is_same_card-self}
 use Rattle.card_set.proofs.KnownCards.{known_append}
 use Rattle.card_set.proofs.Options.{some_is_none}
@@ -38,19 +38,19 @@ differ card other mine its is_mine is_its apart same =
     let both : is_same_card card other ≡ false = sym (ap (λ s. is_one_card s its) is_mine ∙ ap (is_one_card (slots.Known card)) is_its) ∙ apart in
     false_true (sym both ∙ (ap (is_same_card card) (sym same) ∙ is_same_card-self card))
 
-lacks : (first : Place) (card : Card) (rest : List Place) → first.slot ≡ slots.Known card → ((later : Place) → IsAmong rest later → is_one_card first.slot later.slot ≡ false) → Lacks card (known_cards (map (λ (p : Place). p.slot) rest))
+lacks : (first : Place) (card : Card) (rest : List Place) → first.slot ≡ slots.Known card → ((later : Place) → IsAmong rest later → is_one_card first.slot later.slot ≡ false) → Lacks card (known_among (map (λ (p : Place). p.slot) rest))
 lacks first card [] is apart = tt
 lacks first card (place ∷ rest) is apart = by_slot place.slot refl (lacks first card rest is (λ later among. apart later (inr among)))
   where
-    by_slot : (slot : Slot) → place.slot ≡ slot → Lacks card (known_cards (map (λ (p : Place). p.slot) rest)) → Lacks card (known_cards (slot ∷ map (λ (p : Place). p.slot) rest))
+    by_slot : (slot : Slot) → place.slot ≡ slot → Lacks card (known_among (map (λ (p : Place). p.slot) rest)) → Lacks card (known_among (slot ∷ map (λ (p : Place). p.slot) rest))
     by_slot slots.Unknown its later = later
     by_slot (slots.Known other) its later = (differ card other first.slot place.slot is its (apart place (inl refl)), later)
 
-all_different : (held : List Place) → BearNoOneCard held → AreApart held → AllDifferent (known_cards (map (λ (p : Place). p.slot) held))
+all_different : (held : List Place) → BearNoOneCard held → AreApart held → AllDifferent (known_among (map (λ (p : Place). p.slot) held))
 all_different [] none apart = tt
 all_different (first ∷ rest) none apart = by_slot first.slot refl (all_different rest (λ a b in_a in_b. none a b (inr in_a) (inr in_b)) apart.1)
   where
-    by_slot : (slot : Slot) → first.slot ≡ slot → AllDifferent (known_cards (map (λ (p : Place). p.slot) rest)) → AllDifferent (known_cards (slot ∷ map (λ (p : Place). p.slot) rest))
+    by_slot : (slot : Slot) → first.slot ≡ slot → AllDifferent (known_among (map (λ (p : Place). p.slot) rest)) → AllDifferent (known_among (slot ∷ map (λ (p : Place). p.slot) rest))
     by_slot slots.Unknown is later = later
     by_slot (slots.Known card) is later = (lacks first card rest is (λ later among. none first later (inl refl) (inr among) (apart.0 later among)), later)
 
@@ -66,12 +66,12 @@ apart_append (x ∷ xs) ys apart_x apart_y cross = (
 )
 
 -- the known cards of a seat and of the board, by whatever tests of places, are all different
-pub both_different : (placed : List Place) (mine its : Place → Bool) (seat : ℕ) → AreRising placed → BearNoOneCard (filter mine placed ++ filter its placed) → ((place : Place) → mine place ≡ true → is_same_owner place.owner (Some seat) ≡ true) → ((place : Place) → its place ≡ true → is_same_owner place.owner None ≡ true) → AllDifferent (known_cards (map (λ (p : Place). p.slot) (filter mine placed)) ++ known_cards (map (λ (p : Place). p.slot) (filter its placed)))
+pub both_different : (placed : List Place) (mine its : Place → Bool) (seat : ℕ) → AreRising placed → BearNoOneCard (filter mine placed ++ filter its placed) → ((place : Place) → mine place ≡ true → is_same_owner place.owner (Some seat) ≡ true) → ((place : Place) → its place ≡ true → is_same_owner place.owner None ≡ true) → AllDifferent (known_among (map (λ (p : Place). p.slot) (filter mine placed)) ++ known_among (map (λ (p : Place). p.slot) (filter its placed)))
 both_different placed mine its seat up none is_mine is_its =
     let slot : Place → Slot = λ p. p.slot in
     let own : List Place = filter mine placed in
     let board : List Place = filter its placed in
-    subst AllDifferent (ap known_cards (map-append slot own board) ∙ known_append (map slot own) (map slot board))
+    subst AllDifferent (ap known_among (map-append slot own board) ∙ known_append (map slot own) (map slot board))
     (all_different (own ++ board) none
     (apart_append own board (rising_apart own (rising_filter mine placed up)) (rising_apart board (rising_filter its placed up))
     (λ x y in_x in_y same.

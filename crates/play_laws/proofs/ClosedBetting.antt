@@ -3,7 +3,7 @@ use Rattle.std.proofs.Common.{◌≡◌, ◌≢◌, ℕ, ◌+◌, ◌-◌, ◌�
 use Rattle.std.specs.List.{list_any}
 use Rattle.std.proofs.lemmas.Bool.{and_parts, and_from, and_right, ne_eqb, false_from_ne_true, both_ways, or_left, or_cases, or_right}
 use Rattle.play_event.specs.declared.setup.Setup.{Setup}
-use Rattle.play_event.specs.Streets.{is_stud}
+use Rattle.play_event.specs.Streets.{is_stud_game}
 use Rattle.play_event.specs.Past.{Past, Resolved, Move, Dealt, Boarded, Moved, Discarded, Shown, Mucked, moves_of, moves_on, street_of}
 use Rattle.play_event.specs.Chips.{chips_added, brought}
 use Rattle.play_event.specs.Seats.{can_act, all_seats, able_count}
@@ -65,10 +65,10 @@ bring_by true false less more on is = false_from_ne_true (nat_le 2 less && true)
 -- a bring-in that is not due on a street does not come due by a move of another one
 pub bring_still : (setup : Setup) (move : Move) (moves : List Move) (street : ℕ) → move.street ≢ street → is_bring_in_due setup moves street ≡ false → is_bring_in_due setup (move ∷ moves) street ≡ false
 bring_still setup move moves street differ is =
-    ap (λ l. is_stud setup.code && (street == 1) && nat_le 2 (able_count setup (move ∷ moves)) && not (list_any (λ (move : Move). has_opened_betting move.act) l)) (other_moves move moves street differ)
-    ∙ and_group (is_stud setup.code) (street == 1) (nat_le 2 (able_count setup (move ∷ moves))) (not (list_any (λ (move : Move). has_opened_betting move.act) (moves_on street moves)))
-    ∙ bring_by (is_stud setup.code && (street == 1)) (list_any (λ (move : Move). has_opened_betting move.act) (moves_on street moves)) (able_count setup (move ∷ moves)) (able_count setup moves) (able_fewer setup move moves)
-    (sym (and_group (is_stud setup.code) (street == 1) (nat_le 2 (able_count setup moves)) (not (list_any (λ (move : Move). has_opened_betting move.act) (moves_on street moves)))) ∙ is)
+    ap (λ l. is_stud_game setup.code && (street == 1) && nat_le 2 (able_count setup (move ∷ moves)) && not (list_any (λ (move : Move). has_opened_betting move.act) l)) (other_moves move moves street differ)
+    ∙ and_group (is_stud_game setup.code) (street == 1) (nat_le 2 (able_count setup (move ∷ moves))) (not (list_any (λ (move : Move). has_opened_betting move.act) (moves_on street moves)))
+    ∙ bring_by (is_stud_game setup.code && (street == 1)) (list_any (λ (move : Move). has_opened_betting move.act) (moves_on street moves)) (able_count setup (move ∷ moves)) (able_count setup moves) (able_fewer setup move moves)
+    (sym (and_group (is_stud_game setup.code) (street == 1) (nat_le 2 (able_count setup moves)) (not (list_any (λ (move : Move). has_opened_betting move.act) (moves_on street moves)))) ∙ is)
 
 -- nothing comes due on a street by an event of another
 no_discard : (event : Resolved) (street : ℕ) → street_of event ≢ street → is_discard_on street event ≡ false

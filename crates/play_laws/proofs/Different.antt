@@ -3,7 +3,7 @@ use Rattle.std.proofs.Common.{◌≡◌, ◌≢◌, ℕ, false, inl, inr, Option
 use Rattle.std.proofs.lemmas.Bool.{and_parts, and_right}
 use Rattle.play_event.specs.Held.{held_slots, is_held}
 use Rattle.card_set.specs.Different.{AllDifferent}
-use Rattle.card_set.specs.Known.{known_cards}
+use Rattle.card_set.specs.Known.{known_among}
 use Rattle.card_set.proofs.Options.{is_none_none}
 use Rattle.play_event.specs.declared.setup.Rules.{Rules}
 use Rattle.play_event.specs.declared.setup.Setup.{Setup}
@@ -47,7 +47,7 @@ on_both : (placed xs ys : List Place) → AreOnTable placed xs → AreOnTable pl
 unfolding AreOnTable
 on_both placed xs ys on_x on_y place among = elim (among_append xs ys place among) [ inl here ↦ on_x place here | inr there ↦ on_y place there ]
 
-pub cards_differ : (setup : Setup) (rules : Rules) (events : List Said) (seat : ℕ) → AreLegal setup rules events → AllDifferent (known_cards (held_slots (Some seat) (places_of setup.code (past_of setup events))) ++ known_cards (held_slots None (places_of setup.code (past_of setup events))))
+pub cards_differ : (setup : Setup) (rules : Rules) (events : List Said) (seat : ℕ) → AreLegal setup rules events → AllDifferent (known_among (held_slots (Some seat) (places_of setup.code (past_of setup events))) ++ known_among (held_slots None (places_of setup.code (past_of setup events))))
 unfolding AreOnTable
 cards_differ setup rules events seat legal =
     let placed : List Place = places_of setup.code (past_of setup events) in

@@ -9,8 +9,8 @@ use Rattle.play_event.specs.declared.code.Code.{Code}
 use Rattle.play_event.specs.declared.setup.Setup.{Setup}
 use Rattle.play_event.specs.declared.setup.Rules.{Rules}
 use Rattle.play_event.specs.Said.{Said}
-use Rattle.play_event.specs.Past.{Past, Resolved, is_fold}
-use Rattle.card_set.specs.Known.{known_cards}
+use Rattle.play_event.specs.Past.{Past, Resolved, is_folding}
+use Rattle.card_set.specs.Known.{known_among}
 use Rattle.play_event.specs.Dealing.{cards_discarded}
 use Rattle.play_event.specs.Due.{turn}
 use Rattle.play_event.specs.Places.{Place, is_same_owner, is_in_group, is_past_deck, places_dealt, after_deal, is_held_by, folded_place, after_fold, gone_now}
@@ -115,7 +115,7 @@ out_step : (setup : Setup) (before : Past) (at : ℕ) (event : Resolved) → Pas
 out_step setup before at _ past law come (deals who cards due is more few free) apart up counts street seat some = deal_out setup.code (Some who) at cards (places_of setup.code before) street seat some ∙ counts street seat some
 out_step setup before at _ past law come (boards cards due more few free) apart up counts street seat some = deal_out setup.code None at (map (λ card. slots.Known card) cards) (places_of setup.code before) street seat some ∙ counts street seat some
 out_step setup before at _ past law come (mucks who may) apart up counts street seat some = counts street seat some
-out_step setup before at _ past law come (moves move no_deal no_draw on) apart up counts street seat some = by_fold (is_fold move.act)
+out_step setup before at _ past law come (moves move no_deal no_draw on) apart up counts street seat some = by_fold (is_folding move.act)
   where
     by_fold : (b : Bool) → length (filter (is_out_of street seat) (if b then after_fold move.seat (places_of setup.code before) else places_of setup.code before)) ≡ cards_discarded before street seat
     by_fold true = fold_out street seat move.seat (length (places_of setup.code before)) (places_of setup.code before) ∙ counts street seat some
@@ -134,7 +134,7 @@ out_step setup before at _ past law come (discards who cards no_deal draw next f
         counts street seat some,
         ap (λ b. if b then length cards else 0) other,
         marked_alike (is_out_of street seat) (is_held_by who) (length placed) at placed (after_discard at who cards placed) (λ old new among is. other_out at who street seat (length placed) old new some other (λ covered. hand.held old among covered) is)
-            (discard_marks (is_held_by who) (length placed) at (known_cards cards) (unmatched_names (filter (is_held_by who) placed) (known_cards cards)) (blanks_in cards) placed),
+            (discard_marks (is_held_by who) (length placed) at (known_among cards) (unmatched_names (filter (is_held_by who) placed) (known_among cards)) (blanks_in cards) placed),
       )
       | inl here ↦
           let parts = and_parts (at == street) (who == seat) here in

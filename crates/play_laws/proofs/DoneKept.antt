@@ -5,7 +5,7 @@ use Rattle.std.proofs.lemmas.Bool.{or_parts, and_parts, eq-eqb, eqb-true, cases_
 use Rattle.play_event.specs.declared.setup.Setup.{Setup}
 use Rattle.play_event.specs.Games.{hole_cards_on, board_cards_on}
 use Rattle.play_event.specs.Streets.{has_draw}
-use Rattle.play_event.specs.Past.{Past, Resolved, Move, Dealt, Boarded, Moved, Discarded, Shown, Mucked, moves_of, newest_street, street_of, is_fold, moves_before}
+use Rattle.play_event.specs.Past.{Past, Resolved, Move, Dealt, Boarded, Moved, Discarded, Shown, Mucked, moves_of, newest_street, street_of, is_folding, moves_before}
 use Rattle.play_event.specs.Seats.{is_live, all_seats, live_count}
 use Rattle.play_event.specs.Dealing.{is_deal_due, is_draw_due, hole_cards_dealt, board_cards_dealt, hole_cards_owed, board_cards_owed, cards_owed, replacements_owed, has_drawn, next_to_draw}
 use Rattle.card_set.proofs.Tests.{false_true}
@@ -54,7 +54,7 @@ live_before [] street seat is = refl
 live_before (move ∷ rest) street seat is = by_street (nat_lt move.street street) (live_before rest street seat (still_live move rest seat is))
   where
     by_street : (b : Bool) → is_live (moves_before street rest) seat ≡ true → is_live (if b then (move ∷ moves_before street rest) else moves_before street rest) seat ≡ true
-    by_street true later = more (is_fold move.act && (move.seat == seat)) (list_any (λ (move : Move). is_fold move.act && (move.seat == seat)) rest) (list_any (λ (move : Move). is_fold move.act && (move.seat == seat)) (moves_before street rest)) is later
+    by_street true later = more (is_folding move.act && (move.seat == seat)) (list_any (λ (move : Move). is_folding move.act && (move.seat == seat)) rest) (list_any (λ (move : Move). is_folding move.act && (move.seat == seat)) (moves_before street rest)) is later
       where
         more : (f all some : Bool) → not (f || all) ≡ true → not some ≡ true → not (f || some) ≡ true
         more true all some one two = one
@@ -67,8 +67,8 @@ late_fold newest street seat [] reached live folded = false_true (sym folded)
 late_fold newest street seat (move ∷ rest) reached live folded = elim (cases_lt move.street street) [
   | inl early ↦
       let first : is_live (move ∷ moves_before street rest) seat ≡ true = sym (ap (λ b. is_live (if b then (move ∷ moves_before street rest) else moves_before street rest) seat) (lt-ltb move.street street early)) ∙ live in
-      let none : (is_fold move.act && (move.seat == seat)) ≡ false = (or_parts (is_fold move.act && (move.seat == seat)) (list_any (λ (move : Move). is_fold move.act && (move.seat == seat)) (moves_before street rest)) (not-true (list_any (λ (move : Move). is_fold move.act && (move.seat == seat)) (move ∷ moves_before street rest)) first)).0 in
-      let rest_folded : is_live rest seat ≡ false = sym (ap (λ b. not (b || list_any (λ (move : Move). is_fold move.act && (move.seat == seat)) rest)) none) ∙ folded in
+      let none : (is_folding move.act && (move.seat == seat)) ≡ false = (or_parts (is_folding move.act && (move.seat == seat)) (list_any (λ (move : Move). is_folding move.act && (move.seat == seat)) (moves_before street rest)) (not-true (list_any (λ (move : Move). is_folding move.act && (move.seat == seat)) (move ∷ moves_before street rest)) first)).0 in
+      let rest_folded : is_live rest seat ≡ false = sym (ap (λ b. not (b || list_any (λ (move : Move). is_folding move.act && (move.seat == seat)) rest)) none) ∙ folded in
       elim (late_fold newest street seat rest reached.1 (still_live move (moves_before street rest) seat first) rest_folded) [
         | inl less ↦ inl less
         | inr has ↦ inr (or_right (move.street == street) (has_move street rest) has)

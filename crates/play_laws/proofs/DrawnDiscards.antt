@@ -5,9 +5,9 @@ use Rattle.card_set.specs.declared.card.Slot.{Slot}
 use Rattle.card_set.specs.declared.card.Slot.TheVariants as slots
 use Rattle.play_event.specs.declared.code.Code.{Code}
 use Rattle.play_event.specs.declared.setup.Setup.{Setup}
-use Rattle.play_event.specs.Past.{Past, Dealt, Boarded, Moved, Discarded, Shown, Mucked, moves_of, newest_street, is_fold}
+use Rattle.play_event.specs.Past.{Past, Dealt, Boarded, Moved, Discarded, Shown, Mucked, moves_of, newest_street, is_folding}
 use Rattle.play_event.specs.Seats.{is_live}
-use Rattle.card_set.specs.Known.{known_cards}
+use Rattle.card_set.specs.Known.{known_among}
 use Rattle.play_event.specs.Dealing.{has_drawn}
 use Rattle.play_event.specs.Places.{Place, is_same_owner, is_in_group, is_past_deck, places_dealt, after_deal, is_held_by, after_fold, folded_place, gone_now}
 use Rattle.play_event.specs.NameMatching.{after_discard, after_show, unmatched_names, blanks_in, can_be_named, is_show_of_all}
@@ -69,7 +69,7 @@ out_drawn code [] street seat place among is = absurd among
 out_drawn code (Dealt on owner cards ∷ before) street seat place among is = out_drawn code before street seat place (new_not_out code (Some owner) on cards (places_of code before) street seat place among is) is
 out_drawn code (Boarded on cards ∷ before) street seat place among is = out_drawn code before street seat place (new_not_out code None on (map (λ card. slots.Known card) cards) (places_of code before) street seat place among is) is
 out_drawn code (Mucked on owner ∷ before) street seat place among is = out_drawn code before street seat place among is
-out_drawn code (Moved move ∷ before) street seat place among is = by_fold (is_fold move.act) (out_drawn code before street seat) among
+out_drawn code (Moved move ∷ before) street seat place among is = by_fold (is_folding move.act) (out_drawn code before street seat) among
   where
     by_fold : (b : Bool) → ((old : Place) → IsAmong (places_of code before) old → IsOut street seat old → has_drawn before street seat ≡ true) → IsAmong (if b then after_fold move.seat (places_of code before) else places_of code before) place → has_drawn before street seat ≡ true
     by_fold true old in_it = let it = fold_not_out move.seat (length (places_of code before)) street seat (places_of code before) place in_it is in old it.0 it.1.0 it.1.1
@@ -77,7 +77,7 @@ out_drawn code (Moved move ∷ before) street seat place among is = by_fold (is_
 out_drawn code (Discarded on owner cards ∷ before) street seat place among is =
     let placed = places_of code before in
     old_out (length placed) on owner street seat placed (after_discard on owner cards placed) place (has_drawn before street seat)
-    (marked_changed (is_held_by owner) (length placed) on owner placed (after_discard on owner cards placed) (held_parts owner) (discard_marks (is_held_by owner) (length placed) on (known_cards cards) (unmatched_names (filter (is_held_by owner) placed) (known_cards cards)) (blanks_in cards) placed))
+    (marked_changed (is_held_by owner) (length placed) on owner placed (after_discard on owner cards placed) (held_parts owner) (discard_marks (is_held_by owner) (length placed) on (known_among cards) (unmatched_names (filter (is_held_by owner) placed) (known_among cards)) (blanks_in cards) placed))
     among is (λ old in_it was. out_drawn code before street seat old in_it was)
 out_drawn code (Shown on owner cards ∷ before) street seat place among is =
     let placed = places_of code before in

@@ -16,7 +16,7 @@ use Rattle.play_event.specs.Seats.{is_live, can_act}
 use Rattle.play_event.specs.Dealing.{has_drawn}
 use Rattle.play_event.specs.Due.{has_to_move}
 use Rattle.play_event.specs.Openers.{InTurn, NoSeat, TheSeat, Undecided, in_turn, UpCards, opener_by, up_cards_opener, has_unknown_up_card}
-use Rattle.card_set.specs.Known.{is_unknown}
+use Rattle.card_set.specs.Known.{hides_card}
 use Rattle.play_event.specs.PlayerToAct.{player_to_act, player_to_act_after, first_in_turn, next_in_turn}
 use Rattle.play_event.specs.Places.{Place, is_same_owner, is_held_by, is_up}
 use Rattle.play_event.specs.Table.{places_of, up_cards}
@@ -83,7 +83,7 @@ is_player_to_act setup placed ups list street seat same is = elim (cases_Bool (h
   | inr none ↦ elim (decided (opener_of setup.code) setup ups list street seat none is) [
     | inl blinds ↦ free (λ others. blinds_free setup ups others list street seat blinds is)
     | inr known ↦ shown
-        (λ other least most able. ap (list_any is_unknown) (same other least most able) ∙ none_kept_passes (can_act setup list) (λ seat. list_any is_unknown (ups seat)) 1 setup.stacks.seats other known least (omega (arith, most)) able)
+        (λ other least most able. ap (list_any hides_card) (same other least most able) ∙ none_kept_passes (can_act setup list) (λ seat. list_any hides_card (ups seat)) 1 setup.stacks.seats other known least (omega (arith, most)) able)
         (player_to_act_same setup list street (ups_by setup.code placed street) ups same ∙ is)
   ]
 ]

@@ -7,7 +7,7 @@ use Rattle.play_event.specs.declared.reason.Due.{Due}
 use Rattle.play_event.specs.declared.reason.Due.TheVariants as dues
 use Rattle.play_event.specs.declared.setup.Setup.{Setup}
 use Rattle.play_event.specs.declared.setup.Rules.{Rules}
-use Rattle.play_event.specs.Streets.{is_stud}
+use Rattle.play_event.specs.Streets.{is_stud_game}
 use Rattle.play_event.specs.Said as said
 use Rattle.play_event.specs.Said.{Said}
 use Rattle.play_event.specs.Past.{Past, Resolved, Move, Moved, moves_of, moves_on, Discarded, Shown, Dealt, Mucked, Boarded}
@@ -37,7 +37,7 @@ use Rattle.card_set.proofs.Any.{any_from_length, list_any-weaker}
 
 -- a bring-in is due only before any move of the first street
 record IsBring (setup : Setup) (list : List Move) (street : ℕ) : Type 0 where
-  stud : is_stud setup.code ≡ true
+  stud : is_stud_game setup.code ≡ true
   first : street ≡ 1
   two : 2 ≤ able_count setup list
   unopened : list_any (λ (move : Move). has_opened_betting move.act) (moves_on street list) ≡ false
@@ -45,17 +45,17 @@ record IsBring (setup : Setup) (list : List Move) (street : ℕ) : Type 0 where
 bring_parts : (setup : Setup) (list : List Move) (street : ℕ) → is_bring_in_due setup list street ≡ true → IsBring setup list street
 bring_parts setup list street is =
     let opened : Bool = list_any (λ (move : Move). has_opened_betting move.act) (moves_on street list) in
-    let all = and_parts (is_stud setup.code && (street == 1)) (nat_le 2 (able_count setup list) && not opened) (sym (and_group (is_stud setup.code) (street == 1) (nat_le 2 (able_count setup list)) (not opened)) ∙ is) in
-    let one = and_parts (is_stud setup.code) (street == 1) all.0 in
+    let all = and_parts (is_stud_game setup.code && (street == 1)) (nat_le 2 (able_count setup list) && not opened) (sym (and_group (is_stud_game setup.code) (street == 1) (nat_le 2 (able_count setup list)) (not opened)) ∙ is) in
+    let one = and_parts (is_stud_game setup.code) (street == 1) all.0 in
     let two = and_parts (nat_le 2 (able_count setup list)) (not opened) all.1 in
     record { stud = one.0; first = eqb-true street 1 one.1; two = leb-true 2 (able_count setup list) two.0; unopened = not-true opened two.1 }
 
 bring_from : (setup : Setup) (list : List Move) (street : ℕ) → IsBring setup list street → is_bring_in_due setup list street ≡ true
 bring_from setup list street is =
     let opened : Bool = list_any (λ (move : Move). has_opened_betting move.act) (moves_on street list) in
-    and_group (is_stud setup.code) (street == 1) (nat_le 2 (able_count setup list)) (not opened)
-    ∙ and_from (is_stud setup.code && (street == 1)) (nat_le 2 (able_count setup list) && not opened)
-    (and_from (is_stud setup.code) (street == 1) is.stud (eq-eqb street 1 is.first))
+    and_group (is_stud_game setup.code) (street == 1) (nat_le 2 (able_count setup list)) (not opened)
+    ∙ and_from (is_stud_game setup.code && (street == 1)) (nat_le 2 (able_count setup list) && not opened)
+    (and_from (is_stud_game setup.code) (street == 1) is.stud (eq-eqb street 1 is.first))
     (and_from (nat_le 2 (able_count setup list)) (not opened) (le-leb 2 (able_count setup list) is.two) (not_from_false opened is.unopened))
 
 made_act : (setup : Setup) (older : List Move) (street : ℕ) (turn_is : InTurn) (event : Said) (move : Move) → IsMoveSaid event → is_due_kind setup.code dues.BringIn event ≡ true → resolved_by setup older street turn_is event ≡ Moved move → has_opened_betting move.act ≡ true

@@ -8,7 +8,7 @@ use Rattle.play_event.specs.declared.setup.Rules.{Rules}
 use Rattle.play_event.specs.Streets.{has_draw}
 use Rattle.play_event.specs.Said as said
 use Rattle.play_event.specs.Said.{Said}
-use Rattle.play_event.specs.Past.{Past, Resolved, Move, Dealt, Boarded, Moved, Discarded, Shown, Mucked, moves_of, newest_street, is_fold}
+use Rattle.play_event.specs.Past.{Past, Resolved, Move, Dealt, Boarded, Moved, Discarded, Shown, Mucked, moves_of, newest_street, is_folding}
 use Rattle.play_event.specs.Seats.{is_live, can_act, live_count}
 use Rattle.play_event.specs.Chips.{chips_left}
 use Rattle.play_event.specs.Dealing.{has_drawn}
@@ -158,7 +158,7 @@ moves_step setup rules before at _ past come (discards seat cards no_deal draw n
 moves_step setup rules before at _ past come (shows seat cards may free) law fits =
     moves_sure setup rules (places_of setup.code before) (places_of setup.code (Shown at seat cards ∷ before)) (moves_of before) (show_sure setup.code seat cards (places_of setup.code before)) law
 moves_step setup rules before at _ past come (mucks seat may) law fits = law
-moves_step setup rules before at _ past come (moves move no_deal no_draw on) law fits = by_fold (is_fold move.act)
+moves_step setup rules before at _ past come (moves move no_deal no_draw on) law fits = by_fold (is_folding move.act)
   where
     by_fold : (b : Bool) → MovesLaw setup rules (if b then after_fold move.seat (places_of setup.code before) else places_of setup.code before) (move ∷ moves_of before)
     by_fold false = (fits, law)

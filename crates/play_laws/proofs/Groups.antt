@@ -4,13 +4,13 @@ use Rattle.std.proofs.Common.{◌≡◌, ℕ, zero, suc, ◌+◌, Bool, true, fa
 use Rattle.std.proofs.lemmas.List.Elements.{filter-append}
 use Rattle.std.proofs.lemmas.List.Sums.{length-filter}
 use Rattle.std.proofs.lemmas.List.{length-map}
-use Rattle.card_set.specs.Known.{known_cards}
+use Rattle.card_set.specs.Known.{known_among}
 use Rattle.card_set.specs.declared.card.Card.{Card}
 use Rattle.card_set.specs.declared.card.Slot.TheVariants as slots
 use Rattle.card_set.specs.declared.card.Slot.{Slot}
 use Rattle.play_event.specs.Dealing.{hole_cards_dealt, board_cards_dealt}
 use Rattle.play_event.specs.NameMatching.{matched_card, after_matching, after_discard, after_show, discarded_now, is_named, unmatched_names, blanks_in, can_be_named, is_show_of_all}
-use Rattle.play_event.specs.Past.{Past, Dealt, Boarded, Moved, Discarded, Shown, Mucked, is_fold}
+use Rattle.play_event.specs.Past.{Past, Dealt, Boarded, Moved, Discarded, Shown, Mucked, is_folding}
 use Rattle.play_event.specs.Places.{Place, is_same_owner, is_in_group, is_held_by, is_past_deck, places_dealt, after_fold, folded_place}
 use Rattle.play_event.specs.Table.{places_of}
 use Rattle.play_event.specs.declared.code.Code.{Code}
@@ -86,7 +86,7 @@ group_length code None (Boarded on cards ∷ before) street =
     deal_group None None street on (is_past_deck code placed on) (count_by (is_in_group None on) placed) (length placed) (map (λ card. slots.Known card) cards) placed
     ∙ ap (λ n. (if on == street then length (map (λ card. slots.Known card) cards) else 0) + n) (group_length code None before street)
     ∙ if_same_added (on == street) (length (map (λ card. slots.Known card) cards)) (length cards) (board_cards_dealt before street) (length-map cards (λ card. slots.Known card))
-group_length code owner (Moved move ∷ before) street = by_fold (is_fold move.act) owner (group_length code owner before street)
+group_length code owner (Moved move ∷ before) street = by_fold (is_folding move.act) owner (group_length code owner before street)
   where
     by_fold : (b : Bool) (o : Option ℕ) → length (filter (is_in_group o street) (places_of code before)) ≡ cards_dealt before street o → length (filter (is_in_group o street) (if b then after_fold move.seat (places_of code before) else places_of code before)) ≡ cards_dealt (Moved move ∷ before) street o
     by_fold true (Some seat) later = still_group (Some seat) street (places_of code before) (after_fold move.seat (places_of code before)) (fold_still move.seat (length (places_of code before)) (places_of code before)) ∙ later
@@ -98,10 +98,10 @@ group_length code owner (Discarded on seat cards ∷ before) street = by_owner o
     by_owner : (o : Option ℕ) → length (filter (is_in_group o street) (places_of code before)) ≡ cards_dealt before street o → length (filter (is_in_group o street) (after_discard on seat cards (places_of code before))) ≡ cards_dealt (Discarded on seat cards ∷ before) street o
     by_owner (Some other) later =
         let placed = places_of code before in
-        still_group (Some other) street placed (after_discard on seat cards placed) (names_still (is_held_by seat) (discarded_now on (length placed)) (known_cards cards) (unmatched_names (filter (is_held_by seat) placed) (known_cards cards)) (blanks_in cards) placed (λ place. record { owner = refl; street = refl })) ∙ later
+        still_group (Some other) street placed (after_discard on seat cards placed) (names_still (is_held_by seat) (discarded_now on (length placed)) (known_among cards) (unmatched_names (filter (is_held_by seat) placed) (known_among cards)) (blanks_in cards) placed (λ place. record { owner = refl; street = refl })) ∙ later
     by_owner None later =
         let placed = places_of code before in
-        still_group None street placed (after_discard on seat cards placed) (names_still (is_held_by seat) (discarded_now on (length placed)) (known_cards cards) (unmatched_names (filter (is_held_by seat) placed) (known_cards cards)) (blanks_in cards) placed (λ place. record { owner = refl; street = refl })) ∙ later
+        still_group None street placed (after_discard on seat cards placed) (names_still (is_held_by seat) (discarded_now on (length placed)) (known_among cards) (unmatched_names (filter (is_held_by seat) placed) (known_among cards)) (blanks_in cards) placed (λ place. record { owner = refl; street = refl })) ∙ later
 group_length code owner (Shown on seat cards ∷ before) street = by_owner owner (group_length code owner before street)
   where
     by_owner : (o : Option ℕ) → length (filter (is_in_group o street) (places_of code before)) ≡ cards_dealt before street o → length (filter (is_in_group o street) (after_show code seat cards (places_of code before))) ≡ cards_dealt (Shown on seat cards ∷ before) street o

@@ -8,8 +8,8 @@ use Rattle.play_event.specs.declared.code.Code.{Code}
 use Rattle.play_event.specs.declared.setup.Setup.{Setup}
 use Rattle.play_event.specs.declared.setup.Rules.{Rules}
 use Rattle.play_event.specs.Said.{Said}
-use Rattle.play_event.specs.Past.{Past, Resolved, Move, moves_of, newest_street, is_fold, moves_before}
-use Rattle.card_set.specs.Known.{known_cards}
+use Rattle.play_event.specs.Past.{Past, Resolved, Move, moves_of, newest_street, is_folding, moves_before}
+use Rattle.card_set.specs.Known.{known_among}
 use Rattle.play_event.specs.Due.{turn}
 use Rattle.play_event.specs.Places.{Place, is_in_group, is_past_deck, places_dealt, after_deal, is_held_by, folded_place, after_fold, gone_now}
 use Rattle.play_event.specs.NameMatching.{after_discard, after_show, discarded_now, unmatched_names, blanks_in, can_be_named, is_show_of_all}
@@ -81,8 +81,8 @@ deck_law setup before at _ (shows seat cards may free) deck =
 deck_law setup before at _ (discards seat cards no_deal draw next few free held) deck =
     let placed = places_of setup.code before in
     kept_deck setup.code (length placed) placed (after_discard at seat cards placed)
-    (names_keep (length placed) (is_held_by seat) (discarded_now at (length placed)) (discard_mark at (length placed)) (held_is_there seat) (known_cards cards) (unmatched_names (filter (is_held_by seat) placed) (known_cards cards)) (blanks_in cards) placed) free deck
-deck_law setup before at _ (moves move no_deal no_draw on) deck = by_fold (is_fold move.act)
+    (names_keep (length placed) (is_held_by seat) (discarded_now at (length placed)) (discard_mark at (length placed)) (held_is_there seat) (known_among cards) (unmatched_names (filter (is_held_by seat) placed) (known_among cards)) (blanks_in cards) placed) free deck
+deck_law setup before at _ (moves move no_deal no_draw on) deck = by_fold (is_folding move.act)
   where
     by_fold : (b : Bool) → AreInDeck setup.code (if b then after_fold move.seat (places_of setup.code before) else places_of setup.code before)
     by_fold true = fold_deck setup.code move.seat (length (places_of setup.code before)) (places_of setup.code before) deck

@@ -5,9 +5,9 @@ use Rattle.card_set.specs.declared.card.Slot.TheVariants as slots
 use Rattle.play_event.specs.declared.setup.Setup.{Setup}
 use Rattle.play_event.specs.declared.setup.Rules.{Rules}
 use Rattle.play_event.specs.Said.{Said}
-use Rattle.play_event.specs.Past.{Past, Resolved, is_fold}
+use Rattle.play_event.specs.Past.{Past, Resolved, is_folding}
 use Rattle.play_event.specs.Due.{turn}
-use Rattle.card_set.specs.Known.{is_unknown}
+use Rattle.card_set.specs.Known.{hides_card}
 use Rattle.play_event.specs.Places.{Place, after_fold, places_dealt, is_past_deck, is_in_group}
 use Rattle.play_event.specs.NameMatching.{after_discard, after_show}
 use Rattle.play_event.specs.Table.{places_of}
@@ -22,18 +22,18 @@ use Rattle.play_laws.proofs.UnknownOrder.{sure_from}
 
 -- the cards of the board are known
 pub IsBoardKnown : List Place → Type 0
-IsBoardKnown placed = (place : Place) → IsAmong placed place → place.owner ≡ None → is_unknown place.slot ≡ false
+IsBoardKnown placed = (place : Place) → IsAmong placed place → place.owner ≡ None → hides_card place.slot ≡ false
 
 known_sure : (olds news : List Place) → AreSureOf olds news → IsBoardKnown olds → IsBoardKnown news
 unfolding IsBoardKnown
 known_sure olds news sure known place among none =
     let it = sure_from olds news place sure among in
-    let was : is_unknown it.old.slot ≡ false = known it.old it.among (sym it.sure.owner ∙ none) in
-    ap is_unknown (it.sure.slot was) ∙ was
+    let was : hides_card it.old.slot ≡ false = known it.old it.among (sym it.sure.owner ∙ none) in
+    ap hides_card (it.sure.slot was) ∙ was
 
-board_dealt : (owner : Option ℕ) (at : ℕ) (late : Bool) (index number : ℕ) (cards : List Card) (place : Place) → IsAmong (places_dealt owner at late index number (map (λ card. slots.Known card) cards)) place → is_unknown place.slot ≡ false
+board_dealt : (owner : Option ℕ) (at : ℕ) (late : Bool) (index number : ℕ) (cards : List Card) (place : Place) → IsAmong (places_dealt owner at late index number (map (λ card. slots.Known card) cards)) place → hides_card place.slot ≡ false
 board_dealt owner at late index number [] place among = absurd among
-board_dealt owner at late index number (card ∷ rest) place (inl same) = ap (λ (p : Place). is_unknown p.slot) (sym same)
+board_dealt owner at late index number (card ∷ rest) place (inl same) = ap (λ (p : Place). hides_card p.slot) (sym same)
 board_dealt owner at late index number (card ∷ rest) place (inr later) = board_dealt owner at late (index + 1) (number + 1) rest place later
 
 known_step : (setup : Setup) (before : Past) (at : ℕ) (event : Resolved) → Stepped setup before at event → IsBoardKnown (places_of setup.code before) → IsBoardKnown (places_of setup.code (event ∷ before))
@@ -53,14 +53,14 @@ known_step setup before at _ (boards cards due some few free) known = λ place a
 known_step setup before at _ (mucks seat may) known = known
 known_step setup before at _ (shows seat cards may free) known = known_sure (places_of setup.code before) (after_show setup.code seat cards (places_of setup.code before)) (show_sure setup.code seat cards (places_of setup.code before)) known
 known_step setup before at _ (discards seat cards no_deal draw next few free held) known = known_sure (places_of setup.code before) (after_discard at seat cards (places_of setup.code before)) (discard_sure at seat cards (places_of setup.code before)) known
-known_step setup before at _ (moves move no_deal no_draw on) known = by_fold (is_fold move.act)
+known_step setup before at _ (moves move no_deal no_draw on) known = by_fold (is_folding move.act)
   where
     by_fold : (b : Bool) → IsBoardKnown (if b then after_fold move.seat (places_of setup.code before) else places_of setup.code before)
     by_fold true = known_sure (places_of setup.code before) (after_fold move.seat (places_of setup.code before)) (fold_sure move.seat (length (places_of setup.code before)) (places_of setup.code before)) known
     by_fold false = known
 
 -- after legal events they are
-pub board_known : (setup : Setup) (rules : Rules) (events : List Said) → AreLegal setup rules events → (place : Place) → IsAmong (places_of setup.code (past_of setup events)) place → place.owner ≡ None → is_unknown place.slot ≡ false
+pub board_known : (setup : Setup) (rules : Rules) (events : List Said) → AreLegal setup rules events → (place : Place) → IsAmong (places_of setup.code (past_of setup events)) place → place.owner ≡ None → hides_card place.slot ≡ false
 unfolding with_event IsBoardKnown
 board_known setup rules [] legal = λ place among none. absurd among
 board_known setup rules (event ∷ events) legal =

@@ -11,7 +11,7 @@ use Rattle.play_event.specs.declared.code.Code.{Code}
 use Rattle.play_event.specs.declared.setup.Setup.{Setup}
 use Rattle.play_event.specs.declared.setup.Rules.{Rules}
 use Rattle.play_event.specs.Past.{Move}
-use Rattle.card_set.specs.Known.{is_unknown, known_cards}
+use Rattle.card_set.specs.Known.{hides_card, known_among}
 use Rattle.play_event.specs.Places.{Place, is_same_owner, is_in_group, is_up, is_past_deck, places_dealt, after_deal, is_held_by, folded_place, gone_now}
 use Rattle.play_event.specs.NameMatching.{after_matching, after_discard, after_show, discarded_now, unmatched_names, blanks_in, can_be_named, is_show_of_all, matched_card, is_named}
 use Rattle.play_event.specs.Laws.{IsAmong}
@@ -26,7 +26,7 @@ pub record IsSureOf (old new : Place) : Type 0 where
   pub owner : new.owner ≡ old.owner
   pub street : new.street ≡ old.street
   pub index : new.index ≡ old.index
-  pub slot : is_unknown old.slot ≡ false → new.slot ≡ old.slot
+  pub slot : hides_card old.slot ≡ false → new.slot ≡ old.slot
 
 -- places are where they were, and what was known of them is known
 abbrev pub AreSureOf : List Place → List Place → Type 0
@@ -56,7 +56,7 @@ sure_found : (mark : Place → Place) → IsPlain mark → (names : List Card) (
 sure_found mark plain names (slots.Known card) others blanks place here = sure_maybe place (mark place) (is_named card names) (sure_mark mark plain place)
 sure_found mark plain names slots.Unknown (card ∷ others) blanks place here =
     let named : Place = record place { slot = slots.Known card } in
-    record { owner = plain.owner named; street = plain.street named; index = plain.index named; slot = λ known. false_true (sym known ∙ ap is_unknown here) }
+    record { owner = plain.owner named; street = plain.street named; index = plain.index named; slot = λ known. false_true (sym known ∙ ap hides_card here) }
 sure_found mark plain names slots.Unknown [] zero place here = sure_same place
 sure_found mark plain names slots.Unknown [] (suc blanks) place here = sure_mark mark plain place
 
@@ -70,7 +70,7 @@ names_sure covers mark plain names others blanks (place ∷ rest) = sure_step co
 
 -- a discard keeps what was known
 pub discard_sure : (street seat : ℕ) (cards : List Slot) (placed : List Place) → AreSureOf placed (after_discard street seat cards placed)
-discard_sure street seat cards placed = names_sure (is_held_by seat) (discarded_now street (length placed)) (record { owner = λ place. refl; street = λ place. refl; index = λ place. refl; slot = λ place. refl }) (known_cards cards) (unmatched_names (filter (is_held_by seat) placed) (known_cards cards)) (blanks_in cards) placed
+discard_sure street seat cards placed = names_sure (is_held_by seat) (discarded_now street (length placed)) (record { owner = λ place. refl; street = λ place. refl; index = λ place. refl; slot = λ place. refl }) (known_among cards) (unmatched_names (filter (is_held_by seat) placed) (known_among cards)) (blanks_in cards) placed
 
 -- so does a show
 pub show_sure : (code : Code) (seat : ℕ) (cards : List Card) (placed : List Place) → AreSureOf placed (after_show code seat cards placed)
@@ -88,16 +88,16 @@ up_same code street seat old new sure =
     ∙ ap (λ s. is_same_owner old.owner (Some seat) && ((nat_lt 0 (up_cards_on code s) && nat_le (down_cards_on code s) new.index) && nat_le s street)) sure.street
     ∙ ap (λ i. is_same_owner old.owner (Some seat) && ((nat_lt 0 (up_cards_on code old.street) && nat_le (down_cards_on code old.street) i) && nat_le old.street street)) sure.index
 
-ups_step : (old new : Place) (olds news : List Place) (a b : Bool) → a ≡ b → IsSureOf old new → (list_any is_unknown (map (λ (p : Place). p.slot) olds) ≡ false → map (λ (p : Place). p.slot) news ≡ map (λ (p : Place). p.slot) olds) → list_any is_unknown (map (λ (p : Place). p.slot) (if b then (old ∷ olds) else olds)) ≡ false → map (λ (p : Place). p.slot) (if a then (new ∷ news) else news) ≡ map (λ (p : Place). p.slot) (if b then (old ∷ olds) else olds)
+ups_step : (old new : Place) (olds news : List Place) (a b : Bool) → a ≡ b → IsSureOf old new → (list_any hides_card (map (λ (p : Place). p.slot) olds) ≡ false → map (λ (p : Place). p.slot) news ≡ map (λ (p : Place). p.slot) olds) → list_any hides_card (map (λ (p : Place). p.slot) (if b then (old ∷ olds) else olds)) ≡ false → map (λ (p : Place). p.slot) (if a then (new ∷ news) else news) ≡ map (λ (p : Place). p.slot) (if b then (old ∷ olds) else olds)
 ups_step old new olds news true true same sure later known =
-    let parts = or_parts (is_unknown old.slot) (list_any is_unknown (map (λ (p : Place). p.slot) olds)) known in
+    let parts = or_parts (hides_card old.slot) (list_any hides_card (map (λ (p : Place). p.slot) olds)) known in
     ap (λ s. s ∷ map (λ (p : Place). p.slot) news) (sure.slot parts.0) ∙ ap (λ l. old.slot ∷ l) (later parts.1)
 ups_step old new olds news true false same sure later known = false_true (sym same)
 ups_step old new olds news false true same sure later known = false_true same
 ups_step old new olds news false false same sure later known = later known
 
 -- up-cards of a seat that were known stay unchanged
-pub ups_sure : (code : Code) (street seat : ℕ) (olds news : List Place) → AreSureOf olds news → list_any is_unknown (ups_by code olds street seat) ≡ false → ups_by code news street seat ≡ ups_by code olds street seat
+pub ups_sure : (code : Code) (street seat : ℕ) (olds news : List Place) → AreSureOf olds news → list_any hides_card (ups_by code olds street seat) ≡ false → ups_by code news street seat ≡ ups_by code olds street seat
 ups_sure code street seat [] [] sure known = refl
 ups_sure code street seat [] (new ∷ news) sure known = absurd sure
 ups_sure code street seat (old ∷ olds) [] sure known = absurd sure
@@ -122,14 +122,14 @@ ups_deal code street seat owner on cards placed later =
     ∙ append-nil (filter (is_up_by code street seat) placed))
 
 -- so whose turn it was is unchanged
-pub player_to_act_still : (setup : Setup) (olds news : List Place) (older : List Move) (street seat : ℕ) → ((other : ℕ) → list_any is_unknown (ups_by setup.code olds street other) ≡ false → ups_by setup.code news street other ≡ ups_by setup.code olds street other) → IsPlayerToAct setup olds older street seat → IsPlayerToAct setup news older street seat
+pub player_to_act_still : (setup : Setup) (olds news : List Place) (older : List Move) (street seat : ℕ) → ((other : ℕ) → list_any hides_card (ups_by setup.code olds street other) ≡ false → ups_by setup.code news street other ≡ ups_by setup.code olds street other) → IsPlayerToAct setup olds older street seat → IsPlayerToAct setup news older street seat
 player_to_act_still setup olds news older street seat same (free by) = free by
 player_to_act_still setup olds news older street seat same (shown known by) =
-    shown (λ other least most able. ap (list_any is_unknown) (same other (known other least most able)) ∙ known other least most able)
+    shown (λ other least most able. ap (list_any hides_card) (same other (known other least most able)) ∙ known other least most able)
     (player_to_act_same setup older street (ups_by setup.code news street) (ups_by setup.code olds street) (λ other least most able. same other (known other least most able)) ∙ by)
 
 -- a move that fits still fits if known up-cards are unchanged
-pub fits_still : (setup : Setup) (rules : Rules) (olds news : List Place) (older : List Move) (move : Move) → ((other : ℕ) → list_any is_unknown (ups_by setup.code olds move.street other) ≡ false → ups_by setup.code news move.street other ≡ ups_by setup.code olds move.street other) → FitsMove setup rules olds older move → FitsMove setup rules news older move
+pub fits_still : (setup : Setup) (rules : Rules) (olds news : List Place) (older : List Move) (move : Move) → ((other : ℕ) → list_any hides_card (ups_by setup.code olds move.street other) ≡ false → ups_by setup.code news move.street other ≡ ups_by setup.code olds move.street other) → FitsMove setup rules olds older move → FitsMove setup rules news older move
 fits_still setup rules olds news older move same fits =
     record { several = fits.several; due = fits.due; is_due = fits.is_due; event = fits.event; is_move = fits.is_move; in_turn = player_to_act_still setup olds news older move.street move.seat same fits.in_turn; none = fits.none; place = fits.place }
 

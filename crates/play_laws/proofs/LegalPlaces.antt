@@ -11,9 +11,9 @@ use Rattle.play_event.specs.declared.setup.Rules.{Rules}
 use Rattle.play_event.specs.Games.{hole_cards_on}
 use Rattle.play_event.specs.Streets.{has_draw}
 use Rattle.play_event.specs.Said.{Said}
-use Rattle.play_event.specs.Past.{Past, Resolved, Move, Dealt, Boarded, Moved, Discarded, Shown, Mucked, moves_of, newest_street, is_fold, moves_before}
+use Rattle.play_event.specs.Past.{Past, Resolved, Move, Dealt, Boarded, Moved, Discarded, Shown, Mucked, moves_of, newest_street, is_folding, moves_before}
 use Rattle.play_event.specs.Seats.{is_live}
-use Rattle.card_set.specs.Known.{known_cards}
+use Rattle.card_set.specs.Known.{known_among}
 use Rattle.play_event.specs.Dealing.{hole_cards_dealt, hole_cards_owed, cards_owed}
 use Rattle.play_event.specs.Due.{turn}
 use Rattle.play_event.specs.Places.{Place, is_same_owner, is_in_group, is_past_deck, places_dealt, after_deal, is_held_by, after_fold}
@@ -67,7 +67,7 @@ group_count code (Dealt on owner cards ∷ before) street seat =
     ∙ ap (λ n. (if (on == street) && (owner == seat) then length cards else 0) + n) (group_count code before street seat)
 group_count code (Boarded on cards ∷ before) street seat =
     omega (arith, deal_group code (Some seat) None street on (map (λ card. slots.Known card) cards) (places_of code before), group_count code before street seat)
-group_count code (Moved move ∷ before) street seat = by_fold (is_fold move.act) (group_count code before street seat)
+group_count code (Moved move ∷ before) street seat = by_fold (is_folding move.act) (group_count code before street seat)
   where
     by_fold : (b : Bool) → length (filter (is_in_group (Some seat) street) (places_of code before)) ≡ hole_cards_dealt before street seat → length (filter (is_in_group (Some seat) street) (if b then after_fold move.seat (places_of code before) else places_of code before)) ≡ hole_cards_dealt before street seat
     by_fold true later = changed_group (Some seat) street (length (places_of code before)) move.street move.seat (places_of code before) (after_fold move.seat (places_of code before)) (fold_changed move.seat (length (places_of code before)) move.street (places_of code before)) ∙ later
@@ -75,7 +75,7 @@ group_count code (Moved move ∷ before) street seat = by_fold (is_fold move.act
 group_count code (Discarded on owner cards ∷ before) street seat =
     let placed = places_of code before in
     changed_group (Some seat) street (length placed) on owner placed (after_discard on owner cards placed)
-    (marked_changed (is_held_by owner) (length placed) on owner placed (after_discard on owner cards placed) (held_parts owner) (discard_marks (is_held_by owner) (length placed) on (known_cards cards) (unmatched_names (filter (is_held_by owner) placed) (known_cards cards)) (blanks_in cards) placed))
+    (marked_changed (is_held_by owner) (length placed) on owner placed (after_discard on owner cards placed) (held_parts owner) (discard_marks (is_held_by owner) (length placed) on (known_among cards) (unmatched_names (filter (is_held_by owner) placed) (known_among cards)) (blanks_in cards) placed))
     ∙ group_count code before street seat
 group_count code (Shown on owner cards ∷ before) street seat =
     let placed = places_of code before in
@@ -168,7 +168,7 @@ places_law setup before at _ past law come (discards seat cards no_deal draw nex
     let who = is_next_to_draw setup before at seat next in
     marks_law setup.code (moves_of before) (newest_street before) at seat (is_held_by seat) placed (after_discard at seat cards placed) law come.on (omega (arith, past.since, come.on)) (held_parts seat)
     (λ old among is. early old among (held_parts seat old is).1 who)
-    (discard_marks (is_held_by seat) (length placed) at (known_cards cards) (unmatched_names (filter (is_held_by seat) placed) (known_cards cards)) (blanks_in cards) placed)
+    (discard_marks (is_held_by seat) (length placed) at (known_among cards) (unmatched_names (filter (is_held_by seat) placed) (known_among cards)) (blanks_in cards) placed)
   where
     early : (old : Place) → IsAmong (places_of setup.code before) old → old.owner ≡ Some seat → DrawsNext setup before at seat → old.street < at
     early old among mine who = elim (cases_lt old.street at) [
@@ -179,9 +179,9 @@ places_law setup before at _ past law come (discards seat cards no_deal draw nex
           let draws_there : has_draw setup.code at ≡ true = (and_parts (has_draw setup.code at) _ draw).0 in
           absurd (omega (arith, some_passes (is_in_group (Some seat) at) (places_of setup.code before) old among in_it, group_count setup.code before at seat, past.drawn_count at seat draws_there, undrawn_none before at seat who.undrawn))
     ]
-places_law setup before at _ past law come (moves move no_deal no_draw on) = by_fold (is_fold move.act) refl
+places_law setup before at _ past law come (moves move no_deal no_draw on) = by_fold (is_folding move.act) refl
   where
-    by_fold : (b : Bool) → is_fold move.act ≡ b → PlacesLaw setup.code (move ∷ moves_of before) move.street (if b then after_fold move.seat (places_of setup.code before) else places_of setup.code before)
+    by_fold : (b : Bool) → is_folding move.act ≡ b → PlacesLaw setup.code (move ∷ moves_of before) move.street (if b then after_fold move.seat (places_of setup.code before) else places_of setup.code before)
     by_fold true is = fold_law setup.code move (moves_of before) (newest_street before) (places_of setup.code before) law is (omega (arith, on, come.on)) (omega (arith, on, come.on, past.since))
     by_fold false is = move_law setup.code move (moves_of before) (newest_street before) (places_of setup.code before) law is (omega (arith, on, come.on)) (omega (arith, on, come.on, past.since))
 

@@ -12,7 +12,7 @@ use Rattle.play_event.specs.Past.{Move, Moved}
 use Rattle.play_event.specs.Seats.{can_act, live_count}
 use Rattle.play_event.specs.Due.{is_bring_in_due, is_move_due}
 use Rattle.play_event.specs.Openers.{TheSeat, UpCards}
-use Rattle.card_set.specs.Known.{is_unknown}
+use Rattle.card_set.specs.Known.{hides_card}
 use Rattle.play_event.specs.PlayerToAct.{player_to_act}
 use Rattle.play_event.specs.Places.{Place, is_same_owner, is_up}
 use Rattle.play_event.specs.Scripts.{resolved_by}
@@ -32,7 +32,7 @@ ups_by code placed street seat = map (λ place. place.slot) (filter (is_up_by co
 -- these are known
 pub data IsPlayerToAct (setup : Setup) (placed : List Place) (older : List Move) (street seat : ℕ) : Type 0 where
   free : ((ups : UpCards) → player_to_act setup ups older street ≡ TheSeat seat) → IsPlayerToAct setup placed older street seat
-  shown : ((other : ℕ) → 1 ≤ other → other ≤ setup.stacks.seats → can_act setup older other ≡ true → list_any is_unknown (ups_by setup.code placed street other) ≡ false) → player_to_act setup (ups_by setup.code placed street) older street ≡ TheSeat seat → IsPlayerToAct setup placed older street seat
+  shown : ((other : ℕ) → 1 ≤ other → other ≤ setup.stacks.seats → can_act setup older other ≡ true → list_any hides_card (ups_by setup.code placed street other) ≡ false) → player_to_act setup (ups_by setup.code placed street) older street ≡ TheSeat seat → IsPlayerToAct setup placed older street seat
 
 -- what is due: a bring-in, or a move
 pub data IsBetDue (setup : Setup) (older : List Move) (street : ℕ) : Due → Type 0 where

@@ -6,7 +6,7 @@ use Rattle.card_set.specs.declared.card.Card.{Card}
 use Rattle.card_set.specs.declared.card.Slot.{Slot}
 use Rattle.card_set.specs.declared.card.Slot.TheVariants as slots
 use Rattle.card_set.specs.Deck.{is_same_card, deck_index}
-use Rattle.card_set.specs.Known.{is_unknown, known_cards}
+use Rattle.card_set.specs.Known.{hides_card, known_among}
 use Rattle.play_event.specs.Places.{Place, is_held_by}
 use Rattle.play_event.specs.NameMatching.{without_name, unmatched_names, is_named, matched_card, after_matching, after_discard, discarded_now, blanks_in, is_known_and_named, named_count, unknown_count}
 use Rattle.play_event.specs.Taken.{is_one_card}
@@ -108,7 +108,7 @@ count_step covers out mark names place rest slots.Unknown (card ∷ others) blan
     )
   where
     unknown_one : Slot → ℕ
-    unknown_one s = if is_unknown s then 1 else 0
+    unknown_one s = if hides_card s then 1 else 0
 
     named_one : List Card → Slot → ℕ
     named_one l s = if is_known_and_named l s then 1 else 0
@@ -126,14 +126,14 @@ count_step covers out mark names place rest slots.Unknown [] (suc blanks) true h
     )
   where
     unknown_one : Slot → ℕ
-    unknown_one s = if is_unknown s then 1 else 0
+    unknown_one s = if hides_card s then 1 else 0
 
     named_one : List Card → Slot → ℕ
     named_one l s = if is_known_and_named l s then 1 else 0
 count_step covers out mark names place rest (slots.Known card) others blanks true here covered is later few = by_named (is_named card names) refl
   where
     unknown_one : Slot → ℕ
-    unknown_one s = if is_unknown s then 1 else 0
+    unknown_one s = if hides_card s then 1 else 0
 
     named_one : List Card → Slot → ℕ
     named_one l s = if is_known_and_named l s then 1 else 0
@@ -157,30 +157,30 @@ names_marked covers out mark names others blanks (place ∷ rest) is few =
     count_step covers out mark names place rest place.slot others blanks (covers place) refl refl is (λ os n fits. names_marked covers out mark names os n rest (marking_rest covers out mark place rest is) fits) few
 
 -- as many places are marked as the discard names
-known_and_blank : (cards : List Slot) → length cards ≡ length (known_cards cards) + length (filter is_unknown cards)
+known_and_blank : (cards : List Slot) → length cards ≡ length (known_among cards) + length (filter hides_card cards)
 known_and_blank [] = refl
 known_and_blank (slots.Known card ∷ rest) = omega (arith, known_and_blank rest)
 known_and_blank (slots.Unknown ∷ rest) = omega (arith, known_and_blank rest)
 
-unknown_step : (place : Place) (rest : List Place) (b : Bool) → length (filter (λ (p : Place). is_unknown p.slot) rest) ≡ unknown_count rest → length (if b then (place ∷ filter (λ (p : Place). is_unknown p.slot) rest) else filter (λ (p : Place). is_unknown p.slot) rest) ≡ (if b then 1 else 0) + unknown_count rest
+unknown_step : (place : Place) (rest : List Place) (b : Bool) → length (filter (λ (p : Place). hides_card p.slot) rest) ≡ unknown_count rest → length (if b then (place ∷ filter (λ (p : Place). hides_card p.slot) rest) else filter (λ (p : Place). hides_card p.slot) rest) ≡ (if b then 1 else 0) + unknown_count rest
 unknown_step place rest true later = omega (arith, later)
 unknown_step place rest false later = omega (arith, later)
 
-unknown_length : (placed : List Place) → length (filter (λ (place : Place). is_unknown place.slot) placed) ≡ unknown_count placed
+unknown_length : (placed : List Place) → length (filter (λ (place : Place). hides_card place.slot) placed) ≡ unknown_count placed
 unknown_length [] = refl
-unknown_length (place ∷ rest) = unknown_step place rest (is_unknown place.slot) (unknown_length rest)
+unknown_length (place ∷ rest) = unknown_step place rest (hides_card place.slot) (unknown_length rest)
 
 -- a discard takes as many places as it names
-pub discard_count : (out : Place → Bool) (street seat : ℕ) (cards : List Slot) (placed : List Place) → IsMarking (is_held_by seat) out (discarded_now street (length placed)) placed → AllApart (filter (is_held_by seat) placed) → has_no_place (filter (is_held_by seat) placed) (known_cards cards) (blanks_in cards) ≡ false → length (filter out (after_discard street seat cards placed)) ≡ length (filter out placed) + length cards
+pub discard_count : (out : Place → Bool) (street seat : ℕ) (cards : List Slot) (placed : List Place) → IsMarking (is_held_by seat) out (discarded_now street (length placed)) placed → AllApart (filter (is_held_by seat) placed) → has_no_place (filter (is_held_by seat) placed) (known_among cards) (blanks_in cards) ≡ false → length (filter out (after_discard street seat cards placed)) ≡ length (filter out placed) + length cards
 discard_count out street seat cards placed is apart held =
     let covered : List Place = filter (is_held_by seat) placed in
-    let names : List Card = known_cards cards in
+    let names : List Card = known_among cards in
     let others : List Card = unmatched_names covered names in
-    let few : length others + blanks_in cards ≤ count_by (λ (place : Place). is_unknown place.slot) covered = ltb-false (count_by (λ (place : Place). is_unknown place.slot) covered) (length others + blanks_in cards) held in
+    let few : length others + blanks_in cards ≤ count_by (λ (place : Place). hides_card place.slot) covered = ltb-false (count_by (λ (place : Place). hides_card place.slot) covered) (length others + blanks_in cards) held in
     omega (
       arith,
-      names_marked (is_held_by seat) out (discarded_now street (length placed)) names others (blanks_in cards) placed is (omega (arith, few, length-filter (λ (place : Place). is_unknown place.slot) covered, unknown_length covered)),
+      names_marked (is_held_by seat) out (discarded_now street (length placed)) names others (blanks_in cards) placed is (omega (arith, few, length-filter (λ (place : Place). hides_card place.slot) covered, unknown_length covered)),
       names_split covered names apart,
       known_and_blank cards,
-      length-filter is_unknown cards,
+      length-filter hides_card cards,
     )

@@ -5,7 +5,7 @@ use Rattle.std.proofs.lemmas.Bool.{and_from, and_parts, le-leb, leb-true, ne_eqb
 use Rattle.play_event.specs.Due.{turn}
 use Rattle.play_event.specs.Laws.{AreLegal, NoneHold}
 use Rattle.play_event.specs.MoveReasons.{actor_of}
-use Rattle.play_event.specs.Past.{Boarded, Dealt, Discarded, Move, Moved, Mucked, Past, Resolved, Shown, is_fold, is_raise, moves_of}
+use Rattle.play_event.specs.Past.{Boarded, Dealt, Discarded, Move, Moved, Mucked, Past, Resolved, Shown, is_folding, is_raising, moves_of}
 use Rattle.play_event.specs.CurrentBet.{full_raise, current_bet}
 use Rattle.play_event.specs.Raising.{has_able_opponent, is_closed, is_reopened, is_within_cap}
 use Rattle.play_event.specs.Reasons.{why}
@@ -16,7 +16,7 @@ use Rattle.play_event.specs.Streets.{limit_of}
 use Rattle.play_event.specs.Chips.{all_in, street_chips}
 use Rattle.play_event.specs.Amounts.{raise_target}
 use Rattle.play_event.specs.Targets.{floor, greatest_target, is_legal_target, is_target_in}
-use Rattle.play_event.specs.ValidSetup.{IsValid, is_fixed}
+use Rattle.play_event.specs.ValidSetup.{IsValid, is_fixed_limit}
 use Rattle.play_event.specs.declared.limit.Limit.TheVariants as limits
 use Rattle.play_event.specs.declared.limit.Limit.{Limit}
 use Rattle.play_event.specs.declared.setup.Reopen.TheVariants as reopens
@@ -33,9 +33,9 @@ use Rattle.play_laws.proofs.NamedMoves.{move_reasons, why_move}
 -- a move suits rules: if a fold needs a bet to fold to, it has one; a raise is within the caps; and
 -- if only full raises reopen the betting, the betting was open to it
 pub record IsSuited (others : Rules) (setup : Setup) (older : List Move) (move : Move) : Type 0 where
-  pub folds : is_fold move.act ≡ true → others.free_fold ≡ false → nat_le (current_bet setup older move.street) move.from ≡ false
-  pub caps : is_raise move.act ≡ true → is_within_cap others.caps older move.street ≡ true
-  pub reopens : is_raise move.act ≡ true → others.reopen ≡ reopens.Full → is_closed setup older move.street move.seat move.to ≡ false
+  pub folds : is_folding move.act ≡ true → others.free_fold ≡ false → nat_le (current_bet setup older move.street) move.from ≡ false
+  pub caps : is_raising move.act ≡ true → is_within_cap others.caps older move.street ≡ true
+  pub reopens : is_raising move.act ≡ true → others.reopen ≡ reopens.Full → is_closed setup older move.street move.seat move.to ≡ false
 
 -- and so do all moves
 abbrev pub AreSuited : Rules → Setup → List Move → Type 0
@@ -65,7 +65,7 @@ paid true current_bet from pays = refl
 paid false current_bet from pays = ne_eqb (current_bet - from) 0 (λ none. false_true (sym (pays refl) ∙ le-leb current_bet from (omega (arith, none))))
 
 -- if betting always reopens, each target is legal that is legal if only full raises reopen it
-always_legal : (limit : Limit) (reopen : Reopen) (setup : Setup) (moves : List Move) (street seat target : ℕ) → (is_fixed limit ≡ false → floor reopens.Always setup moves street ≤ current_bet setup moves street + full_raise setup moves street) → is_target_in limit reopen setup moves street seat target ≡ true → is_target_in limit reopens.Always setup moves street seat target ≡ true
+always_legal : (limit : Limit) (reopen : Reopen) (setup : Setup) (moves : List Move) (street seat target : ℕ) → (is_fixed_limit limit ≡ false → floor reopens.Always setup moves street ≤ current_bet setup moves street + full_raise setup moves street) → is_target_in limit reopen setup moves street seat target ≡ true → is_target_in limit reopens.Always setup moves street seat target ≡ true
 always_legal limits.Pot reopen setup moves street seat target low is = is
 always_legal limits.Fixed reopen setup moves street seat target low is = is
 always_legal limits.No reopens.Always setup moves street seat target low is = is
@@ -83,7 +83,7 @@ record IsOpen (reopen : Reopen) (setup : Setup) (moves : List Move) (street seat
   reopened : is_reopened reopen setup moves street seat ≡ true
   legal : is_legal_target was setup moves street seat target ≡ true → is_legal_target reopen setup moves street seat target ≡ true
 
-is_open : (reopen was : Reopen) (setup : Setup) (moves : List Move) (street seat target : ℕ) → (is_fixed (limit_of setup.code) ≡ false → floor reopens.Always setup moves street ≤ current_bet setup moves street + full_raise setup moves street) → (reopen ≡ reopens.Full → is_closed setup moves street seat target ≡ false) → IsOpen reopen setup moves street seat target was
+is_open : (reopen was : Reopen) (setup : Setup) (moves : List Move) (street seat target : ℕ) → (is_fixed_limit (limit_of setup.code) ≡ false → floor reopens.Always setup moves street ≤ current_bet setup moves street + full_raise setup moves street) → (reopen ≡ reopens.Full → is_closed setup moves street seat target ≡ false) → IsOpen reopen setup moves street seat target was
 is_open reopens.Always was setup moves street seat target low unclosed = record {
   reopened = refl;
   legal = always_legal (limit_of setup.code) was setup moves street seat target low;
@@ -108,7 +108,7 @@ may_still opponent above cap cap' free free' may is_cap is_open =
 
 -- an event that is legal under some rules is legal under others that it suits
 legal_again : (setup : Setup) (rules others : Rules) (before : Past) (event : Said)
-    → (is_fixed (limit_of setup.code) ≡ false → floor reopens.Always setup (moves_of before) (turn setup before).0 ≤ current_bet setup (moves_of before) (turn setup before).0 + full_raise setup (moves_of before) (turn setup before).0)
+    → (is_fixed_limit (limit_of setup.code) ≡ false → floor reopens.Always setup (moves_of before) (turn setup before).0 ≤ current_bet setup (moves_of before) (turn setup before).0 + full_raise setup (moves_of before) (turn setup before).0)
     → why setup rules before event ≡ None → IsSuitedEvent others setup (moves_of before) (resolved_on setup before (turn setup before).0 event) → why setup others before event ≡ None
 unfolding why
 legal_again setup rules others before (said.Hole seat cards) low legal suits = legal

@@ -9,8 +9,8 @@ use Rattle.card_set.specs.declared.card.Card.{Card}
 use Rattle.std.proofs.lemmas.List.Elements.{filter-append}
 use Rattle.play_event.specs.declared.code.Code.{Code}
 use Rattle.play_event.specs.declared.setup.Setup.{Setup}
-use Rattle.play_event.specs.Past.{Past, Resolved, is_fold}
-use Rattle.card_set.specs.Known.{is_unknown, known_cards}
+use Rattle.play_event.specs.Past.{Past, Resolved, is_folding}
+use Rattle.card_set.specs.Known.{hides_card, known_among}
 use Rattle.play_event.specs.Places.{Place, is_same_owner, is_in_group, is_past_deck, places_dealt, after_deal, is_held_by, folded_place, after_fold, gone_now, group_of}
 use Rattle.play_event.specs.NameMatching.{after_matching, after_discard, after_show, unmatched_names, blanks_in, can_be_named, is_show_of_all, matched_card, is_named}
 use Rattle.play_event.specs.Table.{places_of}
@@ -170,7 +170,7 @@ record IsFiner (old new : Place) : Type 0 where
   owner : new.owner ≡ old.owner
   street : new.street ≡ old.street
   discarded : new.discarded ≡ old.discarded
-  unknown : is_unknown new.slot ≡ true → is_unknown old.slot ≡ true
+  unknown : hides_card new.slot ≡ true → hides_card old.slot ≡ true
 
 AreFiner : List Place → List Place → Type 0
 AreFiner [] [] = Unit {0}
@@ -281,13 +281,13 @@ list_law setup before at _ past law come (shows seat cards may free) list =
     }
 list_law setup before at _ past law come (discards seat cards no_deal draw next few free held) list =
     let placed = places_of setup.code before in
-    let alike = marked_alike (is_held_by seat) (length placed) at placed (after_discard at seat cards placed) (discard_marks (is_held_by seat) (length placed) at (known_cards cards) (unmatched_names (filter (is_held_by seat) placed) (known_cards cards)) (blanks_in cards) placed) in
+    let alike = marked_alike (is_held_by seat) (length placed) at placed (after_discard at seat cards placed) (discard_marks (is_held_by seat) (length placed) at (known_among cards) (unmatched_names (filter (is_held_by seat) placed) (known_among cards)) (blanks_in cards) placed) in
     record {
       numbered = alike_numbered 0 placed (after_discard at seat cards placed) alike list.numbered;
       indexed = λ owner street. alike_indexed owner street 0 placed (after_discard at seat cards placed) alike (list.indexed owner street);
-      unknowns = discard_unknowns (is_held_by seat) seat at (length placed) (known_cards cards) (unmatched_names (filter (is_held_by seat) placed) (known_cards cards)) (blanks_in cards) placed (covers_hand setup before at seat past law come (is_next_to_draw setup before at seat next)) list.unknowns;
+      unknowns = discard_unknowns (is_held_by seat) seat at (length placed) (known_among cards) (unmatched_names (filter (is_held_by seat) placed) (known_among cards)) (blanks_in cards) placed (covers_hand setup before at seat past law come (is_next_to_draw setup before at seat next)) list.unknowns;
     }
-list_law setup before at _ past law come (moves move no_deal no_draw on) list = by_fold (is_fold move.act)
+list_law setup before at _ past law come (moves move no_deal no_draw on) list = by_fold (is_folding move.act)
   where
     by_fold : (b : Bool) → ListLaw setup.code (if b then after_fold move.seat (places_of setup.code before) else places_of setup.code before)
     by_fold false = list

@@ -10,11 +10,11 @@ use Rattle.play_event.specs.declared.reason.Due.{Due}
 use Rattle.play_event.specs.declared.setup.Setup.{Setup}
 use Rattle.play_event.specs.Games.{street_count, hole_cards_on, board_cards_on}
 use Rattle.play_event.specs.Streets.{has_draw}
-use Rattle.play_event.specs.Past.{Past, Move, Dealt, Boarded, Moved, Discarded, Shown, Mucked, moves_of, newest_street, is_fold, moves_before}
+use Rattle.play_event.specs.Past.{Past, Move, Dealt, Boarded, Moved, Discarded, Shown, Mucked, moves_of, newest_street, is_folding, moves_before}
 use Rattle.play_event.specs.Seats.{is_live, all_seats, live_count}
 use Rattle.play_event.specs.Dealing.{is_deal_due, is_draw_due, board_cards_dealt, board_cards_owed, hole_cards_owed, cards_discarded}
 use Rattle.play_event.specs.Due.{turn, due_on, first_due, is_bring_in_due, is_move_due, is_unfinished}
-use Rattle.card_set.specs.Known.{known_cards}
+use Rattle.card_set.specs.Known.{known_among}
 use Rattle.play_event.specs.Places.{Place, is_in_group, is_same_owner, after_fold, is_held_by, group_of}
 use Rattle.play_event.specs.NameMatching.{after_discard, after_show, unmatched_names, blanks_in, can_be_named, is_show_of_all}
 use Rattle.play_event.specs.Table.{places_of}
@@ -115,7 +115,7 @@ board_count code [] street = refl
 board_count code (Dealt on owner cards ∷ before) street = omega (arith, deal_group code None (Some owner) street on cards (places_of code before), board_count code before street)
 board_count code (Boarded on cards ∷ before) street =
     omega (arith, deal_group code None None street on (map (λ card. slots.Known card) cards) (places_of code before), board_count code before street, ap (λ n. if on == street then n else 0) (length-map cards (λ card. slots.Known card)))
-board_count code (Moved played ∷ before) street = by_fold (is_fold played.act) (board_count code before street)
+board_count code (Moved played ∷ before) street = by_fold (is_folding played.act) (board_count code before street)
   where
     by_fold : (b : Bool) → length (filter (is_in_group None street) (places_of code before)) ≡ board_cards_dealt before street → length (filter (is_in_group None street) (if b then after_fold played.seat (places_of code before) else places_of code before)) ≡ board_cards_dealt before street
     by_fold true later = changed_group None street (length (places_of code before)) played.street played.seat (places_of code before) (after_fold played.seat (places_of code before)) (fold_changed played.seat (length (places_of code before)) played.street (places_of code before)) ∙ later
@@ -123,7 +123,7 @@ board_count code (Moved played ∷ before) street = by_fold (is_fold played.act)
 board_count code (Discarded on owner cards ∷ before) street =
     let placed = places_of code before in
     changed_group None street (length placed) on owner placed (after_discard on owner cards placed)
-    (marked_changed (is_held_by owner) (length placed) on owner placed (after_discard on owner cards placed) (held_parts owner) (discard_marks (is_held_by owner) (length placed) on (known_cards cards) (unmatched_names (filter (is_held_by owner) placed) (known_cards cards)) (blanks_in cards) placed))
+    (marked_changed (is_held_by owner) (length placed) on owner placed (after_discard on owner cards placed) (held_parts owner) (discard_marks (is_held_by owner) (length placed) on (known_among cards) (unmatched_names (filter (is_held_by owner) placed) (known_among cards)) (blanks_in cards) placed))
     ∙ board_count code before street
 board_count code (Shown on owner cards ∷ before) street =
     let placed = places_of code before in

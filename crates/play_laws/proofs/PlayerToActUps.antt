@@ -9,7 +9,7 @@ use Rattle.play_event.specs.Past.{Move, moves_on}
 use Rattle.play_event.specs.Seats.{can_act}
 use Rattle.play_event.specs.Due.{has_to_move}
 use Rattle.play_event.specs.Openers.{Undecided, in_turn, UpCards, opener_by, able_seats, up_cards_opener, has_unknown_up_card, is_opener_before}
-use Rattle.card_set.specs.Known.{known_cards, is_unknown}
+use Rattle.card_set.specs.Known.{known_among, hides_card}
 use Rattle.play_event.specs.PlayerToAct.{player_to_act, first_in_turn, next_in_turn}
 use Rattle.card_set.proofs.NumbersOfRange.{any_same, find_same}
 
@@ -18,16 +18,16 @@ abbrev pub SameUps : Setup → List Move → UpCards → UpCards → Type 0
 SameUps setup moves ups others = (seat : ℕ) → 1 ≤ seat → seat ≤ setup.stacks.seats → can_act setup moves seat ≡ true → ups seat ≡ others seat
 
 unknown_same : (setup : Setup) (moves : List Move) (ups others : UpCards) → SameUps setup moves ups others → has_unknown_up_card setup ups moves ≡ has_unknown_up_card setup others moves
-unknown_same setup moves ups others same = any_same (can_act setup moves) (λ seat. list_any is_unknown (ups seat)) (λ seat. list_any is_unknown (others seat)) 1 setup.stacks.seats (λ seat least most able. ap (list_any is_unknown) (same seat least (omega (arith, most)) able))
+unknown_same setup moves ups others same = any_same (can_act setup moves) (λ seat. list_any hides_card (ups seat)) (λ seat. list_any hides_card (others seat)) 1 setup.stacks.seats (λ seat least most able. ap (list_any hides_card) (same seat least (omega (arith, most)) able))
 
 is_beaten : Opener → Bool → UpCards → List ℕ → ℕ → Bool
-is_beaten opener first ups seats seat = not (list_any (λ other. is_opener_before opener first (known_cards (ups other)) (known_cards (ups seat))) seats)
+is_beaten opener first ups seats seat = not (list_any (λ other. is_opener_before opener first (known_among (ups other)) (known_among (ups seat))) seats)
 
 beaten_same : (setup : Setup) (moves : List Move) (street : ℕ) (ups others : UpCards) → SameUps setup moves ups others → (seat : ℕ) → 1 ≤ seat → seat < 1 + setup.stacks.seats → can_act setup moves seat ≡ true → is_beaten (opener_of setup.code) (street == 1) ups (able_seats setup moves) seat ≡ is_beaten (opener_of setup.code) (street == 1) others (able_seats setup moves) seat
 unfolding is_beaten
 beaten_same setup moves street ups others same seat least most able =
-    ap not (any_same (can_act setup moves) (λ other. is_opener_before (opener_of setup.code) (street == 1) (known_cards (ups other)) (known_cards (ups seat))) (λ other. is_opener_before (opener_of setup.code) (street == 1) (known_cards (others other)) (known_cards (others seat))) 1 setup.stacks.seats
-    (λ other from to is. ap (λ u. is_opener_before (opener_of setup.code) (street == 1) (known_cards u) (known_cards (ups seat))) (same other from (omega (arith, to)) is) ∙ ap (λ u. is_opener_before (opener_of setup.code) (street == 1) (known_cards (others other)) (known_cards u)) (same seat least (omega (arith, most)) able)))
+    ap not (any_same (can_act setup moves) (λ other. is_opener_before (opener_of setup.code) (street == 1) (known_among (ups other)) (known_among (ups seat))) (λ other. is_opener_before (opener_of setup.code) (street == 1) (known_among (others other)) (known_among (others seat))) 1 setup.stacks.seats
+    (λ other from to is. ap (λ u. is_opener_before (opener_of setup.code) (street == 1) (known_among u) (known_among (ups seat))) (same other from (omega (arith, to)) is) ∙ ap (λ u. is_opener_before (opener_of setup.code) (street == 1) (known_among (others other)) (known_among u)) (same seat least (omega (arith, most)) able)))
 
 found_same : (setup : Setup) (moves : List Move) (street : ℕ) (ups others : UpCards) → SameUps setup moves ups others → up_cards_opener setup ups moves street ≡ up_cards_opener setup others moves street
 unfolding is_beaten

@@ -12,7 +12,7 @@ use Rattle.play_event.specs.Seats.{can_act, all_seats, able_count}
 use Rattle.play_event.specs.CurrentBet.{to_call}
 use Rattle.play_event.specs.Due.{has_to_move, has_acted_since_raise}
 use Rattle.play_event.specs.Openers.{InTurn, NoSeat, TheSeat, Undecided, in_turn, UpCards, opener_by, up_cards_opener, has_unknown_up_card, able_seats, is_opener_before}
-use Rattle.card_set.specs.Known.{known_cards}
+use Rattle.card_set.specs.Known.{known_among}
 use Rattle.play_event.specs.PlayerToAct.{player_to_act, seats_from, next_in_turn, first_in_turn}
 use Rattle.card_set.proofs.Tests.{false_true}
 use Rattle.card_set.proofs.Options.{some_is_none}
@@ -69,16 +69,16 @@ opener_found setup ups list street some none = by_able (able_seats setup list) r
         by_first false it now later = later it now
 
     before : ℕ → ℕ → Bool
-    before other seat = is_opener_before (opener_of setup.code) (street == 1) (known_cards (ups other)) (known_cards (ups seat))
+    before other seat = is_opener_before (opener_of setup.code) (street == 1) (known_among (ups other)) (known_among (ups seat))
 
-    by_able : (able : List ℕ) → able_seats setup list ≡ able → find (λ seat. not (list_any (λ other. is_opener_before (opener_of setup.code) (street == 1) (known_cards (ups other)) (known_cards (ups seat))) (able_seats setup list))) (able_seats setup list) ≡ None → (able_seats setup list ≡ [] → ⊥) → ⊥
+    by_able : (able : List ℕ) → able_seats setup list ≡ able → find (λ seat. not (list_any (λ other. is_opener_before (opener_of setup.code) (street == 1) (known_among (ups other)) (known_among (ups seat))) (able_seats setup list))) (able_seats setup list) ≡ None → (able_seats setup list ≡ [] → ⊥) → ⊥
     by_able [] same is never = never same
     by_able (first ∷ rest) same is never =
-        let least = least_of (λ other seat. is_opener_before (opener_of setup.code) (street == 1) (known_cards (ups other)) (known_cards (ups seat)))
-        (λ a. opens_not (opener_of setup.code) (street == 1) (known_cards (ups a)))
-        (λ a b c. opens_trans (opener_of setup.code) (street == 1) (known_cards (ups a)) (known_cards (ups b)) (known_cards (ups c))) first rest in
-        let P : List ℕ → Type 0 = λ l. find (λ seat. not (list_any (λ other. is_opener_before (opener_of setup.code) (street == 1) (known_cards (ups other)) (known_cards (ups seat))) l)) l ≡ None in
-        find_in (λ seat. not (list_any (λ other. is_opener_before (opener_of setup.code) (street == 1) (known_cards (ups other)) (known_cards (ups seat))) (first ∷ rest))) (first ∷ rest) least.seat least.is_in (not_from_false _ least.least) (subst P same is)
+        let least = least_of (λ other seat. is_opener_before (opener_of setup.code) (street == 1) (known_among (ups other)) (known_among (ups seat)))
+        (λ a. opens_not (opener_of setup.code) (street == 1) (known_among (ups a)))
+        (λ a b c. opens_trans (opener_of setup.code) (street == 1) (known_among (ups a)) (known_among (ups b)) (known_among (ups c))) first rest in
+        let P : List ℕ → Type 0 = λ l. find (λ seat. not (list_any (λ other. is_opener_before (opener_of setup.code) (street == 1) (known_among (ups other)) (known_among (ups seat))) l)) l ≡ None in
+        find_in (λ seat. not (list_any (λ other. is_opener_before (opener_of setup.code) (street == 1) (known_among (ups other)) (known_among (ups seat))) (first ∷ rest))) (first ∷ rest) least.seat least.is_in (not_from_false _ least.least) (subst P same is)
 
 -- going round the table from any seat, each seat is reached
 range_in : (start count seat : ℕ) → start ≤ seat → seat < start + count → (rest : List ℕ) → IsIn (range_with_len start count ++ rest) seat

@@ -6,7 +6,7 @@ use Rattle.card_set.specs.declared.card.Card.{Card}
 use Rattle.card_set.specs.declared.card.Slot.{Slot}
 use Rattle.card_set.specs.declared.card.Slot.TheVariants as slots
 use Rattle.play_event.specs.declared.code.Code.{Code}
-use Rattle.play_event.specs.Past.{Move, is_fold, moves_before}
+use Rattle.play_event.specs.Past.{Move, is_folding, moves_before}
 use Rattle.play_event.specs.Seats.{is_live, is_fold_of}
 use Rattle.play_event.specs.Places.{Place, is_same_owner, is_held_by, folded_place, gone_now, after_fold}
 use Rattle.play_event.specs.NameMatching.{matched_card, after_matching, discarded_now, is_named}
@@ -34,18 +34,18 @@ folded_more move moves by owner is = by_street (nat_lt move.street by)
     by_street false = is
 
 -- who has folded after one more move folded before, or by it
-folded_either : (move : Move) (moves : List Move) (owner : Option ℕ) → has_owner_folded (move ∷ moves) owner ≡ true → (has_owner_folded moves owner ≡ true) ⊎ ((is_fold move.act ≡ true) × (owner ≡ Some move.seat))
+folded_either : (move : Move) (moves : List Move) (owner : Option ℕ) → has_owner_folded (move ∷ moves) owner ≡ true → (has_owner_folded moves owner ≡ true) ⊎ ((is_folding move.act ≡ true) × (owner ≡ Some move.seat))
 folded_either move moves None is = inl is
 folded_either move moves (Some seat) is = elim (or_cases (is_fold_of seat move) (list_any (is_fold_of seat) moves) (not-false (is_fold_of seat move || list_any (is_fold_of seat) moves) (not-true (is_live (move ∷ moves) seat) is))) [
-  | inl now ↦ let parts = and_parts (is_fold move.act) (move.seat == seat) now in inr (parts.0, ap Some (sym (eqb-true move.seat seat parts.1)))
+  | inl now ↦ let parts = and_parts (is_folding move.act) (move.seat == seat) now in inr (parts.0, ap Some (sym (eqb-true move.seat seat parts.1)))
   | inr before ↦ inl (ap not (not_from_true (list_any (is_fold_of seat) moves) before))
 ]
 
 -- who has folded after a further move folded before, or by it
-pub folded_back : (move : Move) (moves : List Move) (by : ℕ) (owner : Option ℕ) → has_owner_folded (moves_before by (move ∷ moves)) owner ≡ true → (has_owner_folded (moves_before by moves) owner ≡ true) ⊎ ((is_fold move.act ≡ true) × ((owner ≡ Some move.seat) × (move.street < by)))
+pub folded_back : (move : Move) (moves : List Move) (by : ℕ) (owner : Option ℕ) → has_owner_folded (moves_before by (move ∷ moves)) owner ≡ true → (has_owner_folded (moves_before by moves) owner ≡ true) ⊎ ((is_folding move.act ≡ true) × ((owner ≡ Some move.seat) × (move.street < by)))
 folded_back move moves by owner = by_street (nat_lt move.street by) refl
   where
-    by_street : (b : Bool) → nat_lt move.street by ≡ b → has_owner_folded (if b then (move ∷ moves_before by moves) else moves_before by moves) owner ≡ true → (has_owner_folded (moves_before by moves) owner ≡ true) ⊎ ((is_fold move.act ≡ true) × ((owner ≡ Some move.seat) × (move.street < by)))
+    by_street : (b : Bool) → nat_lt move.street by ≡ b → has_owner_folded (if b then (move ∷ moves_before by moves) else moves_before by moves) owner ≡ true → (has_owner_folded (moves_before by moves) owner ≡ true) ⊎ ((is_folding move.act ≡ true) × ((owner ≡ Some move.seat) × (move.street < by)))
     by_street true early is = elim (folded_either move (moves_before by moves) owner is) [
       | inl before ↦ inl before
       | inr now ↦ inr (now.0, (now.1, ltb-true move.street by early))
@@ -53,7 +53,7 @@ folded_back move moves by owner = by_street (nat_lt move.street by) refl
     by_street false late is = inl is
 
 -- a move that folds nobody changes nothing
-pub unfolded_first : (move : Move) (moves : List Move) (owner : Option ℕ) → is_fold move.act ≡ false → has_owner_folded (move ∷ moves) owner ≡ has_owner_folded moves owner
+pub unfolded_first : (move : Move) (moves : List Move) (owner : Option ℕ) → is_folding move.act ≡ false → has_owner_folded (move ∷ moves) owner ≡ has_owner_folded moves owner
 unfolded_first move moves None is = refl
 unfolded_first move moves (Some seat) is = ap (λ b. not (not ((b && (move.seat == seat)) || list_any (is_fold_of seat) moves))) is
 
@@ -208,19 +208,19 @@ fold_changed seat count draw [] = tt
 fold_changed seat count draw (place ∷ rest) = (fold_change seat count draw place (is_held_by seat place) (held_parts seat place), fold_changed seat count draw rest)
 
 -- who folds has folded
-pub folded_own : (move : Move) (moves : List Move) (owner : Option ℕ) → is_fold move.act ≡ true → owner ≡ Some move.seat → has_owner_folded (move ∷ moves) owner ≡ true
+pub folded_own : (move : Move) (moves : List Move) (owner : Option ℕ) → is_folding move.act ≡ true → owner ≡ Some move.seat → has_owner_folded (move ∷ moves) owner ≡ true
 folded_own move moves owner is mine =
     let P : Option ℕ → Type 0 = λ o. has_owner_folded (move ∷ moves) o ≡ true in
-    subst P (sym mine) (ap not (not_from_true (is_fold_of move.seat move || list_any (is_fold_of move.seat) moves) (or_left (is_fold_of move.seat move) (list_any (is_fold_of move.seat) moves) (and_from (is_fold move.act) (move.seat == move.seat) is (eq-eqb move.seat move.seat refl)))))
+    subst P (sym mine) (ap not (not_from_true (is_fold_of move.seat move || list_any (is_fold_of move.seat) moves) (or_left (is_fold_of move.seat move) (list_any (is_fold_of move.seat) moves) (and_from (is_folding move.act) (move.seat == move.seat) is (eq-eqb move.seat move.seat refl)))))
 
 -- no other owner has
 pub folded_other : (move : Move) (moves : List Move) (owner : Option ℕ) (b : Bool) → is_same_owner owner (Some move.seat) ≡ b → b ≡ false → has_owner_folded (move ∷ moves) owner ≡ has_owner_folded moves owner
 folded_other move moves None b same is = refl
 folded_other move moves (Some seat) b same is =
     let differ : (move.seat == seat) ≡ false = ne_eqb move.seat seat (λ one. false_true (sym is ∙ (sym same ∙ eq-eqb seat move.seat (sym one)))) in
-    ap (λ b. not (not (b || list_any (is_fold_of seat) moves))) (and_right (is_fold move.act) (move.seat == seat) differ)
+    ap (λ b. not (not (b || list_any (is_fold_of seat) moves))) (and_right (is_folding move.act) (move.seat == seat) differ)
 
-gone_fold : (move : Move) (moves : List Move) (count : ℕ) (place : Place) (o g : Bool) → is_fold move.act ≡ true → is_same_owner place.owner (Some move.seat) ≡ o → is_none place.gone_after ≡ g → is_some place.gone_after ≡ (nat_lt 0 place.discarded || has_owner_folded moves place.owner) → is_some (if o && g then gone_now count place else place).gone_after ≡ (nat_lt 0 place.discarded || has_owner_folded (move ∷ moves) place.owner)
+gone_fold : (move : Move) (moves : List Move) (count : ℕ) (place : Place) (o g : Bool) → is_folding move.act ≡ true → is_same_owner place.owner (Some move.seat) ≡ o → is_none place.gone_after ≡ g → is_some place.gone_after ≡ (nat_lt 0 place.discarded || has_owner_folded moves place.owner) → is_some (if o && g then gone_now count place else place).gone_after ≡ (nat_lt 0 place.discarded || has_owner_folded (move ∷ moves) place.owner)
 gone_fold move moves count place true true fold owner gone was =
     sym (or_right (nat_lt 0 place.discarded) (has_owner_folded (move ∷ moves) place.owner) (folded_own move moves place.owner fold (is_same_owner-true place.owner (Some move.seat) owner)))
 gone_fold move moves count place true false fold owner gone was =
@@ -237,7 +237,7 @@ same_place_owner : (count : ℕ) (place : Place) (b : Bool) → (if b then gone_
 same_place_owner count place true = refl
 same_place_owner count place false = refl
 
-gone_folds : (code : Code) (move : Move) (moves : List Move) (newest count : ℕ) (placed olds : List Place) → PlacesLaw code moves newest placed → is_fold move.act ≡ true → ((old : Place) → IsAmong olds old → IsAmong placed old) → (new : Place) → IsAmong (map (folded_place move.seat count) olds) new → is_some new.gone_after ≡ (nat_lt 0 new.discarded || has_owner_folded (move ∷ moves) new.owner)
+gone_folds : (code : Code) (move : Move) (moves : List Move) (newest count : ℕ) (placed olds : List Place) → PlacesLaw code moves newest placed → is_folding move.act ≡ true → ((old : Place) → IsAmong olds old → IsAmong placed old) → (new : Place) → IsAmong (map (folded_place move.seat count) olds) new → is_some new.gone_after ≡ (nat_lt 0 new.discarded || has_owner_folded (move ∷ moves) new.owner)
 gone_folds code move moves newest count placed [] law fold sub new among = absurd among
 gone_folds code move moves newest count placed (old ∷ olds) law fold sub new (inl same) =
     let P : Place → Type 0 = λ place. is_some place.gone_after ≡ (nat_lt 0 place.discarded || has_owner_folded (move ∷ moves) place.owner) in
@@ -259,7 +259,7 @@ out_folds code moves newest count seat placed (old ∷ olds) law sub new (inl sa
 out_folds code moves newest count seat placed (old ∷ olds) law sub new (inr later) = out_folds code moves newest count seat placed olds law (λ other among. sub other (inr among)) new later
 
 -- a fold keeps the law of places
-pub fold_law : (code : Code) (move : Move) (moves : List Move) (newest : ℕ) (placed : List Place) → PlacesLaw code moves newest placed → is_fold move.act ≡ true → newest ≤ move.street → 1 ≤ move.street → PlacesLaw code (move ∷ moves) move.street (after_fold move.seat placed)
+pub fold_law : (code : Code) (move : Move) (moves : List Move) (newest : ℕ) (placed : List Place) → PlacesLaw code moves newest placed → is_folding move.act ≡ true → newest ≤ move.street → 1 ≤ move.street → PlacesLaw code (move ∷ moves) move.street (after_fold move.seat placed)
 fold_law code move moves newest placed law fold on some =
     change_law code moves (move ∷ moves) newest move.street move.seat placed (after_fold move.seat placed) law
     (record {
@@ -276,7 +276,7 @@ fold_law code move moves newest placed law fold on some =
     })
 
 -- a move that is no fold does not change who has folded
-pub other_before : (move : Move) (moves : List Move) (by : ℕ) (owner : Option ℕ) → is_fold move.act ≡ false → has_owner_folded (moves_before by (move ∷ moves)) owner ≡ has_owner_folded (moves_before by moves) owner
+pub other_before : (move : Move) (moves : List Move) (by : ℕ) (owner : Option ℕ) → is_folding move.act ≡ false → has_owner_folded (moves_before by (move ∷ moves)) owner ≡ has_owner_folded (moves_before by moves) owner
 other_before move moves by owner is = by_street (nat_lt move.street by)
   where
     by_street : (b : Bool) → has_owner_folded (if b then (move ∷ moves_before by moves) else moves_before by moves) owner ≡ has_owner_folded (moves_before by moves) owner
@@ -288,7 +288,7 @@ stays_all count draw seat [] = tt
 stays_all count draw seat (place ∷ rest) = (record { owner = refl; street = refl; number = refl; past_deck = refl; how = stays refl refl }, stays_all count draw seat rest)
 
 -- and keeps the law of places
-pub move_law : (code : Code) (move : Move) (moves : List Move) (newest : ℕ) (placed : List Place) → PlacesLaw code moves newest placed → is_fold move.act ≡ false → newest ≤ move.street → 1 ≤ move.street → PlacesLaw code (move ∷ moves) move.street placed
+pub move_law : (code : Code) (move : Move) (moves : List Move) (newest : ℕ) (placed : List Place) → PlacesLaw code moves newest placed → is_folding move.act ≡ false → newest ≤ move.street → 1 ≤ move.street → PlacesLaw code (move ∷ moves) move.street placed
 move_law code move moves newest placed law no_fold on some =
     change_law code moves (move ∷ moves) newest move.street move.seat placed placed law
     (record {

@@ -4,11 +4,11 @@ use Rattle.std.specs.List.{list_any}
 use Rattle.play_event.specs.Due.{has_opened_betting}
 use Rattle.play_event.specs.Laws.{NoneHold}
 use Rattle.play_event.specs.Openers.{TheSeat}
-use Rattle.play_event.specs.Past.{Act, Folded, Move, Moved, Resolved, is_bring_in, moves_on}
+use Rattle.play_event.specs.Past.{Act, Folded, Move, Moved, Resolved, is_bringing_in, moves_on}
 use Rattle.play_event.specs.Said.{Said}
 use Rattle.play_event.specs.Scripts.{resolved_by}
 use Rattle.play_event.specs.Seats.{able_count}
-use Rattle.play_event.specs.Streets.{is_stud}
+use Rattle.play_event.specs.Streets.{is_stud_game}
 use Rattle.play_event.specs.declared.reason.Due.{Due}
 use Rattle.play_event.specs.declared.setup.Rules.{Rules}
 use Rattle.play_event.specs.declared.setup.Setup.{Setup}
@@ -27,12 +27,12 @@ act_of (Moved move) = move.act
 act_of _ = Folded
 
 -- without up-cards no move is a bring-in
-pub no_bring : (setup : Setup) (rules : Rules) (older : List Move) (move : Move) (event : Said) (due : Due) → is_stud setup.code ≡ false → IsMoveSaid event → IsBetDue setup older move.street due
-    → NoneHold (move_reasons setup rules older (move.street, due) (TheSeat move.seat) event) → resolved_by setup older move.street (TheSeat move.seat) event ≡ Moved move → is_bring_in move.act ≡ false
+pub no_bring : (setup : Setup) (rules : Rules) (older : List Move) (move : Move) (event : Said) (due : Due) → is_stud_game setup.code ≡ false → IsMoveSaid event → IsBetDue setup older move.street due
+    → NoneHold (move_reasons setup rules older (move.street, due) (TheSeat move.seat) event) → resolved_by setup older move.street (TheSeat move.seat) event ≡ Moved move → is_bringing_in move.act ≡ false
 unfolding act_of
-no_bring setup rules older move _ due blinds (fold_said named) is_due none place = sym (ap (λ r. is_bring_in (act_of r)) place)
-no_bring setup rules older move _ due blinds (call_said named stated) is_due none place = sym (ap (λ r. is_bring_in (act_of r)) place)
-no_bring setup rules older move _ due blinds (raise_said named amount) is_due none place = sym (ap (λ r. is_bring_in (act_of r)) place)
+no_bring setup rules older move _ due blinds (fold_said named) is_due none place = sym (ap (λ r. is_bringing_in (act_of r)) place)
+no_bring setup rules older move _ due blinds (call_said named stated) is_due none place = sym (ap (λ r. is_bringing_in (act_of r)) place)
+no_bring setup rules older move _ due blinds (raise_said named amount) is_due none place = sym (ap (λ r. is_bringing_in (act_of r)) place)
 no_bring setup rules older move _ _ blinds (bring_said named) (move_now unopened now) none place = absurd (true≢false none.1.0)
 no_bring setup rules older move _ _ blinds (bring_said named) (bring_first is) none place =
     absurd (true≢false (sym is ∙ ap (λ b. b && (move.street == 1) && nat_le 2 (able_count setup older) && not (list_any (λ (m : Move). has_opened_betting m.act) (moves_on move.street older))) blinds))

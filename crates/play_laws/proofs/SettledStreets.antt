@@ -5,7 +5,7 @@ use Rattle.std.proofs.lemmas.Bool.{or_parts, or_from, ltb-false}
 use Rattle.play_event.specs.declared.setup.Setup.{Setup}
 use Rattle.play_event.specs.Games.{hole_cards_on}
 use Rattle.play_event.specs.Streets.{has_draw}
-use Rattle.play_event.specs.Past.{Past, Resolved, Move, Dealt, Boarded, Moved, Discarded, Shown, Mucked, moves_of, is_fold}
+use Rattle.play_event.specs.Past.{Past, Resolved, Move, Dealt, Boarded, Moved, Discarded, Shown, Mucked, moves_of, is_folding}
 use Rattle.play_event.specs.Seats.{is_live, all_seats}
 use Rattle.play_event.specs.Dealing.{is_deal_due, is_draw_due, hole_cards_dealt, has_drawn, hole_cards_owed, board_cards_owed, replacements_owed, next_to_draw}
 use Rattle.card_set.proofs.Tests.{false_true, if_not_both}
@@ -29,7 +29,7 @@ less_dealt false on more dealt = omega arith
 pub hole_owed_still : (setup : Setup) (before : Past) (event : Resolved) (street seat : ℕ) → hole_cards_owed setup (event ∷ before) street seat ≤ hole_cards_owed setup before street seat
 hole_owed_still setup before (Dealt on owner cards) street seat = less_dealt (is_live (moves_of before) seat) (hole_cards_on setup.code street) (if (on == street) && (owner == seat) then length cards else 0) (hole_cards_dealt before street seat)
 hole_owed_still setup before (Boarded on cards) street seat = omega arith
-hole_owed_still setup before (Moved move) street seat = owed_less (is_fold move.act && (move.seat == seat)) (list_any (λ (move : Move). is_fold move.act && (move.seat == seat)) (moves_of before)) (hole_cards_on setup.code street - hole_cards_dealt before street seat)
+hole_owed_still setup before (Moved move) street seat = owed_less (is_folding move.act && (move.seat == seat)) (list_any (λ (move : Move). is_folding move.act && (move.seat == seat)) (moves_of before)) (hole_cards_on setup.code street - hole_cards_dealt before street seat)
 hole_owed_still setup before (Discarded on owner cards) street seat = omega arith
 hole_owed_still setup before (Shown on owner cards) street seat = omega arith
 hole_owed_still setup before (Mucked on owner) street seat = omega arith
@@ -83,7 +83,7 @@ drawn_before true false before is = is
 pub to_draw_still : (before : Past) (event : Resolved) (street seat : ℕ) → (is_live (moves_of (event ∷ before)) seat && not (has_drawn (event ∷ before) street seat)) ≡ true → (is_live (moves_of before) seat && not (has_drawn before street seat)) ≡ true
 to_draw_still before (Dealt on owner cards) street seat is = is
 to_draw_still before (Boarded on cards) street seat is = is
-to_draw_still before (Moved move) street seat is = live_before (is_fold move.act && (move.seat == seat)) (list_any (λ (move : Move). is_fold move.act && (move.seat == seat)) (moves_of before)) (has_drawn before street seat) is
+to_draw_still before (Moved move) street seat is = live_before (is_folding move.act && (move.seat == seat)) (list_any (λ (move : Move). is_folding move.act && (move.seat == seat)) (moves_of before)) (has_drawn before street seat) is
 to_draw_still before (Discarded on owner cards) street seat is = drawn_before (is_live (moves_of before) seat) ((on == street) && (owner == seat)) (has_drawn before street seat) is
 to_draw_still before (Shown on owner cards) street seat is = is
 to_draw_still before (Mucked on owner) street seat is = is

@@ -3,7 +3,7 @@ use Rattle.std.proofs.Common.{◌≡◌, ℕ, zero, suc, ◌<◌, Bool, true, fa
 use Rattle.card_set.specs.declared.card.Card.{Card}
 use Rattle.card_set.specs.declared.card.Slot.{Slot}
 use Rattle.card_set.specs.declared.card.Slot.TheVariants as slots
-use Rattle.card_set.specs.Known.{is_unknown}
+use Rattle.card_set.specs.Known.{hides_card}
 use Rattle.play_event.specs.Places.{Place}
 use Rattle.play_event.specs.NameMatching.{matched_card, after_matching, discarded_now, is_named}
 use Rattle.play_event.specs.Laws.{IsAmong}
@@ -14,10 +14,10 @@ use Rattle.play_laws.specs.LegalPlaces.{OutFirst, UnknownsFirst}
 data Became (covers : Place → Bool) (street count : ℕ) (old new : Place) : Type 0 where
   as_it_was : new ≡ old → Became covers street count old new
   discarded : covers old ≡ true → new ≡ discarded_now street count old → Became covers street count old new
-  now_known : is_unknown new.slot ≡ false → Became covers street count old new
+  now_known : hides_card new.slot ≡ false → Became covers street count old new
 
 became_known : (covers : Place → Bool) (street count : ℕ) (names : List Card) (card : Card) (place : Place) (b : Bool) → place.slot ≡ slots.Known card → Became covers street count place (if b then discarded_now street count place else place)
-became_known covers street count names card place true here = now_known (ap is_unknown here)
+became_known covers street count names card place true here = now_known (ap hides_card here)
 became_known covers street count names card place false here = as_it_was refl
 
 became : (covers : Place → Bool) (street count : ℕ) (names : List Card) (slot : Slot) (others : List Card) (blanks : ℕ) (place : Place) → place.slot ≡ slot → covers place ≡ true → Became covers street count place (matched_card (discarded_now street count) names slot others blanks place).place
@@ -54,7 +54,7 @@ came_from covers street count names others blanks (first ∷ rest) new among =
     from_step covers street count names others blanks first rest new (covers first) refl (λ os n. came_from covers street count names os n rest new) among
 
 -- if no name and no blank is left, what is unknown is unchanged
-left_step : (covers : Place → Bool) (street count : ℕ) (names : List Card) (first : Place) (rest : List Place) (new : Place) (slot : Slot) (c : Bool) → first.slot ≡ slot → is_unknown new.slot ≡ true → (IsAmong (after_matching covers (discarded_now street count) names [] 0 rest) new → IsAmong rest new) → IsAmong (if c then (let found = matched_card (discarded_now street count) names slot [] 0 first in found.place ∷ after_matching covers (discarded_now street count) names found.others found.blanks rest) else (first ∷ after_matching covers (discarded_now street count) names [] 0 rest)) new → IsAmong (first ∷ rest) new
+left_step : (covers : Place → Bool) (street count : ℕ) (names : List Card) (first : Place) (rest : List Place) (new : Place) (slot : Slot) (c : Bool) → first.slot ≡ slot → hides_card new.slot ≡ true → (IsAmong (after_matching covers (discarded_now street count) names [] 0 rest) new → IsAmong rest new) → IsAmong (if c then (let found = matched_card (discarded_now street count) names slot [] 0 first in found.place ∷ after_matching covers (discarded_now street count) names found.others found.blanks rest) else (first ∷ after_matching covers (discarded_now street count) names [] 0 rest)) new → IsAmong (first ∷ rest) new
 left_step covers street count names first rest new slot false here unknown later (inl is) = inl is
 left_step covers street count names first rest new slot false here unknown later (inr among) = inr (later among)
 left_step covers street count names first rest new slots.Unknown true here unknown later (inl is) = inl is
@@ -62,11 +62,11 @@ left_step covers street count names first rest new slots.Unknown true here unkno
 left_step covers street count names first rest new (slots.Known card) true here unknown later (inl is) = known_stays (is_named card names) is
   where
     known_stays : (b : Bool) → (if b then discarded_now street count first else first) ≡ new → IsAmong (first ∷ rest) new
-    known_stays true same = false_true (sym (ap is_unknown here) ∙ (ap (λ (p : Place). is_unknown p.slot) same ∙ unknown))
+    known_stays true same = false_true (sym (ap hides_card here) ∙ (ap (λ (p : Place). hides_card p.slot) same ∙ unknown))
     known_stays false same = inl same
 left_step covers street count names first rest new (slots.Known card) true here unknown later (inr among) = inr (later among)
 
-left_alone : (covers : Place → Bool) (street count : ℕ) (names : List Card) (placed : List Place) (new : Place) → is_unknown new.slot ≡ true → IsAmong (after_matching covers (discarded_now street count) names [] 0 placed) new → IsAmong placed new
+left_alone : (covers : Place → Bool) (street count : ℕ) (names : List Card) (placed : List Place) (new : Place) → hides_card new.slot ≡ true → IsAmong (after_matching covers (discarded_now street count) names [] 0 placed) new → IsAmong placed new
 left_alone covers street count names [] new unknown among = absurd among
 left_alone covers street count names (first ∷ rest) new unknown among =
     left_step covers street count names first rest new first.slot (covers first) refl unknown (left_alone covers street count names rest new unknown) among
@@ -111,9 +111,9 @@ unknowns_step covers seat street count names slot others blanks first rest false
 unknowns_step covers seat street count names (slots.Known card) others blanks first rest true here covered hand before later =
     (λ second among owner one two some held when. false_true (sym (still_known (is_named card names)) ∙ one), later others blanks)
   where
-    still_known : (b : Bool) → is_unknown (if b then discarded_now street count first else first).slot ≡ false
-    still_known true = ap is_unknown here
-    still_known false = ap is_unknown here
+    still_known : (b : Bool) → hides_card (if b then discarded_now street count first else first).slot ≡ false
+    still_known true = ap hides_card here
+    still_known false = ap hides_card here
 unknowns_step covers seat street count names slots.Unknown (card ∷ others) blanks first rest true here covered hand before later =
     (λ second among owner one two some held when. false_true one, later others blanks)
 unknowns_step covers seat street count names slots.Unknown [] zero first rest true here covered hand before later =

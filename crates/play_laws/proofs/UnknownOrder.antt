@@ -8,7 +8,7 @@ use Rattle.play_event.specs.declared.code.Code.{Code}
 use Rattle.play_event.specs.declared.setup.Setup.{Setup}
 use Rattle.play_event.specs.declared.setup.Rules.{Rules}
 use Rattle.play_event.specs.Said.{Said}
-use Rattle.play_event.specs.Past.{Past, Resolved, is_fold}
+use Rattle.play_event.specs.Past.{Past, Resolved, is_folding}
 use Rattle.play_event.specs.Due.{turn}
 use Rattle.play_event.specs.Places.{Place, is_in_group, is_past_deck, places_dealt, after_deal, after_fold}
 use Rattle.play_event.specs.NameMatching.{after_discard, after_show}
@@ -76,7 +76,7 @@ sorted_step setup before at _ law come (boards cards due some few free) sorted =
 sorted_step setup before at _ law come (mucks seat may) sorted = sorted
 sorted_step setup before at _ law come (shows seat cards may free) sorted = sorted_sure (places_of setup.code before) (after_show setup.code seat cards (places_of setup.code before)) (show_sure setup.code seat cards (places_of setup.code before)) sorted
 sorted_step setup before at _ law come (discards seat cards no_deal draw next few free held) sorted = sorted_sure (places_of setup.code before) (after_discard at seat cards (places_of setup.code before)) (discard_sure at seat cards (places_of setup.code before)) sorted
-sorted_step setup before at _ law come (moves move no_deal no_draw on) sorted = by_fold (is_fold move.act)
+sorted_step setup before at _ law come (moves move no_deal no_draw on) sorted = by_fold (is_folding move.act)
   where
     by_fold : (b : Bool) → AreSorted (if b then after_fold move.seat (places_of setup.code before) else places_of setup.code before)
     by_fold true = sorted_sure (places_of setup.code before) (after_fold move.seat (places_of setup.code before)) (fold_sure move.seat (length (places_of setup.code before)) (places_of setup.code before)) sorted

@@ -10,7 +10,7 @@ use Rattle.play_event.specs.Laws.{IsFirstStreet}
 use Rattle.play_event.specs.Past.{Move, moves_on, Past, moves_of, newest_street}
 use Rattle.play_event.specs.CurrentBet.{to_call}
 use Rattle.play_event.specs.Seats.{can_act, live_count, able_count, all_seats}
-use Rattle.play_event.specs.Streets.{is_stud}
+use Rattle.play_event.specs.Streets.{is_stud_game}
 use Rattle.play_event.specs.declared.reason.Due.TheVariants as dues
 use Rattle.play_event.specs.declared.reason.Due.{Due}
 use Rattle.play_event.specs.declared.setup.Setup.{Setup}
@@ -46,8 +46,8 @@ unsettled_by_move setup moves street is =
 pub unsettled_by_bring_in : (setup : Setup) (moves : List Move) (street : ℕ) → is_bring_in_due setup moves street ≡ true → is_settled setup moves (street, dues.BringIn) ≡ false
 unsettled_by_bring_in setup moves street is =
     let opened = not (list_any (λ (move : Move). has_opened_betting move.act) (moves_on street moves)) in
-    let parts = and_parts (is_stud setup.code && (street == 1) && nat_le 2 (able_count setup moves)) opened is in
-    let parts2 = and_parts (is_stud setup.code && (street == 1)) (nat_le 2 (able_count setup moves)) parts.0 in
+    let parts = and_parts (is_stud_game setup.code && (street == 1) && nat_le 2 (able_count setup moves)) opened is in
+    let parts2 = and_parts (is_stud_game setup.code && (street == 1)) (nat_le 2 (able_count setup moves)) parts.0 in
     settled_by (nat_le 2 (live_count setup moves)) (nat_le (able_count setup moves) 1) (has_able_seat_to_call setup moves street) (inl (many_not_few (able_count setup moves) parts2.1))
 
 move_by : (street : ℕ) (bring_in move : Bool) → due_by street false false bring_in move ≡ Some dues.Move → move ≡ true
@@ -74,13 +74,13 @@ module _ (setup : Setup) (past : Past) (street : ℕ) where
   pub move_is_due : turn setup past ≡ (street, dues.Move) → is_move_due setup (moves_of past) street ≡ true
   move_is_due is = move_by street (is_bring_in_due setup (moves_of past) street) (is_move_due setup (moves_of past) street) (due_after_cards dues.Move is refl)
 
-  pub bring_in_is_due : turn setup past ≡ (street, dues.BringIn) → is_stud setup.code ≡ true
+  pub bring_in_is_due : turn setup past ≡ (street, dues.BringIn) → is_stud_game setup.code ≡ true
   bring_in_is_due is =
       let due : is_bring_in_due setup (moves_of past) street ≡ true = bring_in_by street (is_bring_in_due setup (moves_of past) street) (is_move_due setup (moves_of past) street) (due_after_cards dues.BringIn is refl) in
       let opened = not (list_any (λ (move : Move). has_opened_betting move.act) (moves_on street (moves_of past))) in
-      let parts = and_parts (is_stud setup.code && (street == 1) && nat_le 2 (able_count setup (moves_of past))) opened due in
-      let parts2 = and_parts (is_stud setup.code && (street == 1)) (nat_le 2 (able_count setup (moves_of past))) parts.0 in
-      (and_parts (is_stud setup.code) (street == 1) parts2.0).0
+      let parts = and_parts (is_stud_game setup.code && (street == 1) && nat_le 2 (able_count setup (moves_of past))) opened due in
+      let parts2 = and_parts (is_stud_game setup.code && (street == 1)) (nat_le 2 (able_count setup (moves_of past))) parts.0 in
+      (and_parts (is_stud_game setup.code) (street == 1) parts2.0).0
 
   pub unsettled : (due : Due) → turn setup past ≡ (street, due) → is_bet_due due ≡ true → is_settled setup (moves_of past) (street, due) ≡ false
   unsettled dues.Move is bets = unsettled_by_move setup (moves_of past) street (move_by street (is_bring_in_due setup (moves_of past) street) (is_move_due setup (moves_of past) street) (due_after_cards dues.Move is bets))

@@ -5,7 +5,7 @@ use Rattle.std.specs.List.{list_any}
 use Rattle.std.proofs.lemmas.Bool.{ltb-false, lt-ltb, or_parts}
 use Rattle.std.proofs.lemmas.List.{length-append, length-map}
 use Rattle.play_event.specs.Held.{held_slots, is_held}
-use Rattle.card_set.specs.Known.{known_cards, known_slots}
+use Rattle.card_set.specs.Known.{known_among, known_slots}
 use Rattle.card_set.proofs.Options.{some_is_none}
 use Rattle.card_set.proofs.Tests.{false_true}
 use Rattle.play_event.specs.declared.code.Code.{Code}
@@ -17,7 +17,7 @@ use Rattle.play_event.specs.Games.{game_of, street_count}
 use Rattle.play_event.specs.declared.street.Street.{Street}
 use Rattle.play_event.specs.Laws.{AreLegal, IsAmong}
 use Rattle.play_event.specs.NameMatching.{after_discard, after_show, blanks_in, can_be_named, is_show_of_all, unmatched_names}
-use Rattle.play_event.specs.Past.{Past, Dealt, Boarded, Moved, Discarded, Shown, Mucked, is_fold}
+use Rattle.play_event.specs.Past.{Past, Dealt, Boarded, Moved, Discarded, Shown, Mucked, is_folding}
 use Rattle.play_event.specs.Places.{Place, after_fold, is_held_by, is_in_group, is_past_deck, is_same_owner, places_dealt}
 use Rattle.play_event.specs.Said.{Said}
 use Rattle.play_event.specs.Scripts.{past_of}
@@ -96,7 +96,7 @@ unfolding BoardStays
 board_stays code [] = λ place among none. absurd among
 board_stays code (Dealt on owner cards ∷ before) = dealt_stays code (Some owner) on cards (places_of code before) (board_stays code before)
 board_stays code (Boarded on cards ∷ before) = dealt_stays code None on (known_slots cards) (places_of code before) (board_stays code before)
-board_stays code (Moved move ∷ before) = by_fold (is_fold move.act) (board_stays code before)
+board_stays code (Moved move ∷ before) = by_fold (is_folding move.act) (board_stays code before)
   where
     by_fold : (b : Bool) → BoardStays (places_of code before) → BoardStays (if b then after_fold move.seat (places_of code before) else places_of code before)
     by_fold true later = changed_stays (length (places_of code before)) move.street move.seat (places_of code before) (after_fold move.seat (places_of code before)) (fold_changed move.seat (length (places_of code before)) move.street (places_of code before)) later
@@ -104,7 +104,7 @@ board_stays code (Moved move ∷ before) = by_fold (is_fold move.act) (board_sta
 board_stays code (Discarded on owner cards ∷ before) =
     let placed = places_of code before in
     changed_stays (length placed) on owner placed (after_discard on owner cards placed)
-    (marked_changed (is_held_by owner) (length placed) on owner placed (after_discard on owner cards placed) (held_parts owner) (discard_marks (is_held_by owner) (length placed) on (known_cards cards) (unmatched_names (filter (is_held_by owner) placed) (known_cards cards)) (blanks_in cards) placed))
+    (marked_changed (is_held_by owner) (length placed) on owner placed (after_discard on owner cards placed) (held_parts owner) (discard_marks (is_held_by owner) (length placed) on (known_among cards) (unmatched_names (filter (is_held_by owner) placed) (known_among cards)) (blanks_in cards) placed))
     (board_stays code before)
 board_stays code (Shown on owner cards ∷ before) =
     let placed = places_of code before in

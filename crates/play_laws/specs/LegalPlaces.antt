@@ -4,7 +4,7 @@ use Rattle.play_event.specs.declared.code.Code.{Code}
 use Rattle.play_event.specs.Streets.{deck_of, has_draw}
 use Rattle.play_event.specs.Past.{Move, moves_before}
 use Rattle.play_event.specs.Seats.{is_live}
-use Rattle.card_set.specs.Known.{is_unknown}
+use Rattle.card_set.specs.Known.{hides_card}
 use Rattle.play_event.specs.Places.{Place}
 use Rattle.play_event.specs.Taken.{is_gone_before}
 use Rattle.play_event.specs.Laws.{IsAmong, NoneClash}
@@ -61,7 +61,7 @@ pub record AreLawful (code : Code) (moves : List Move) (placed : List Place) : T
 -- at that draw.
 abbrev pub OutFirst : Place → Place → Type 0
 OutFirst first second =
-    first.owner ≡ second.owner → is_unknown first.slot ≡ true → is_unknown second.slot ≡ true
+    first.owner ≡ second.owner → hides_card first.slot ≡ true → hides_card second.slot ≡ true
     → 0 < second.discarded → first.street < second.discarded
     → (first.discarded ≡ 0) ⊎ (second.discarded ≤ first.discarded)
     → first.discarded ≡ second.discarded

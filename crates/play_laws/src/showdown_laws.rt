@@ -3,7 +3,7 @@
 ghost use Rattle.std.specs.Prelude.{◌≡◌, ◌≢◌, ◌≤◌, ℕ, ◌++◌, true, false, List, Some, None, length};
 ghost use Rattle.play_event.specs.Held.{held_slots};
 ghost use Rattle.card_set.specs.Different.{AllDifferent};
-ghost use Rattle.card_set.specs.Known.{known_cards};
+ghost use Rattle.card_set.specs.Known.{known_among};
 ghost use Rattle.play_event.specs.Games.{game_of};
 ghost use Rattle.play_event.specs.Laws.{AreLegal, IsAmong, moves_by};
 ghost use Rattle.play_event.specs.Places.{Place};
@@ -31,8 +31,8 @@ pub fn law_of_whole_hands()
 pub fn law_of_different_cards()
     ensures { (setup : Setup) (rules : Rules) (events : List Said) (seat : ℕ)
         → AreLegal setup rules events
-        → AllDifferent (known_cards (held_slots (Some seat) (places_by setup events))
-        ++ known_cards (held_slots None (places_by setup events))) }
+        → AllDifferent (known_among (held_slots (Some seat) (places_by setup events))
+        ++ known_among (held_slots None (places_by setup events))) }
 {}
 
 /// In a game without draws, no known card of a legal hand was dealt to two places, including the

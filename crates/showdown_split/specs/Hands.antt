@@ -8,11 +8,11 @@ use Rattle.chip_ledger.specs.LiveRow.{flag_of}
 use Rattle.play_event.specs.declared.hands.HandRow.{HandRow}
 use Rattle.play_event.specs.SeatSlots.{slots_of_hand}
 use Rattle.variant_table.specs.Shares.{Showdown}
-use Rattle.card_set.specs.Known.{known_cards}
+use Rattle.card_set.specs.Known.{known_among}
 
 -- the known cards of seat number n
 abbrev pub holding : HandRow → ℕ → List Card
-holding hands n = known_cards (slots_of_hand hands n)
+holding hands n = known_among (slots_of_hand hands n)
 
 -- the showdown of these hands, board and shown seats
 abbrev pub showdown_of : HandRow → CardRow → LiveRow → Showdown

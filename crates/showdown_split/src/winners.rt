@@ -4,7 +4,8 @@ ghost use Rattle.std.specs.Option.{option_map};
 ghost use Rattle.chip_ledger.specs.LiveRow.{flag_of};
 ghost use Rattle.hand_order.specs.Points.{better};
 ghost use Rattle.showdown_split.specs.Scores.{points_of};
-ghost use Rattle.showdown_split.specs.SeatPoints.{best_to, is_same};
+ghost use Rattle.showdown_split.specs.SeatPoints.{best_to};
+ghost use Rattle.showdown_split.specs.SeatPoints as seat_points;
 
 use crate::scores::Scores;
 use chip_ledger::{LiveRow, Seat};
@@ -14,7 +15,7 @@ use hand_order::{Score, better_score};
 pub fn winners(contending: &LiveRow, scores: &Scores) -> LiveRow
     ensures seats { result.seats ≡ contending.now.seats }
     ensures flags { (n : ℕ) → 1 ≤ n → n ≤ contending.now.seats → flag_of result n
-        ≡ (flag_of contending.now n && is_same (points_of scores.now n)
+        ≡ (flag_of contending.now n && seat_points.is_same (points_of scores.now n)
         (best_to (flag_of contending.now) (points_of scores.now) contending.now.seats)) }
 {
     let most = best(contending, scores);
@@ -23,7 +24,7 @@ pub fn winners(contending: &LiveRow, scores: &Scores) -> LiveRow
         let seat = Seat { number: index + 1 };
         row.set(
             seat,
-            contending.get(seat) && is_same(scores.get(seat), most),
+            contending.get(seat) && are_equal_scores(scores.get(seat), most),
         );
     }
     row
@@ -63,9 +64,10 @@ fn better_of_seat(
 }
 
 // Whether both are the same score, or both are missing.
-fn is_same(first: Option<Score>, second: Option<Score>) -> bool
+fn are_equal_scores(first: Option<Score>, second: Option<Score>) -> bool
     ensures { result
-        ≡ is_same (option_map (λ s. s.points) first) (option_map (λ s. s.points) second) }
+        ≡ seat_points.is_same (option_map (λ s. s.points) first)
+        (option_map (λ s. s.points) second) }
 {
     match (first, second) {
         (None, None) => true,

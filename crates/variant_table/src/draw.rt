@@ -12,7 +12,7 @@ ghost use Rattle.variant_table.specs.Orders.{badugi_order, deuce_seven_order};
 ghost use Rattle.variant_table.specs.TableLaws.{same_order, values_of};
 
 use crate::deck::WHOLE_DECK;
-use crate::street::{NO_STREET, hole_cards};
+use crate::street::{NO_STREET, new_hole_street};
 use crate::variant::Variant;
 use badugi_rank::Badugi;
 use hand_order::Pick;
@@ -65,7 +65,7 @@ impl Variant for N2L1D {
 
     fn street(number: u8) -> Street {
         match number {
-            1 => hole_cards(5, 0, Size::Least),
+            1 => new_hole_street(5, 0, Size::Least),
             _ => draw(Size::Least),
         }
     }
@@ -188,7 +188,7 @@ fn triple_draw_street(number: u8, cards: u8) -> Street
     ensures { slice_get (draw_streets cards) (number - 1) ≡ Some result }
 {
     match number {
-        1 => hole_cards(cards, 0, Size::Small),
+        1 => new_hole_street(cards, 0, Size::Small),
         2 => draw(Size::Small),
         _ => draw(Size::Big),
     }

@@ -26,14 +26,14 @@ pub fn flop_street(number: u8, cards: u8, early: Size, late: Size) -> Street
         ≡ Some result }
 {
     match number {
-        1 => hole_cards(cards, 0, early),
-        2 => board_cards(3, early),
-        _ => board_cards(1, late),
+        1 => new_hole_street(cards, 0, early),
+        2 => new_board_street(3, early),
+        _ => new_board_street(1, late),
     }
 }
 
 /// A street that deals each live seat `down` cards face down and `up` cards face up.
-pub fn hole_cards(down: u8, up: u8, size: Size) -> Street
+pub fn new_hole_street(down: u8, up: u8, size: Size) -> Street
     ensures { result ≡ stud_street down up size }
 {
     Street {
@@ -45,7 +45,7 @@ pub fn hole_cards(down: u8, up: u8, size: Size) -> Street
 }
 
 // A street that deals `cards` cards to the board.
-fn board_cards(cards: u8, size: Size) -> Street
+fn new_board_street(cards: u8, size: Size) -> Street
     ensures { result ≡ board_street cards size }
 {
     Street {

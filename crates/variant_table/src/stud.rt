@@ -12,7 +12,7 @@ ghost use Rattle.variant_table.specs.Orders.{eight_low_order, high_order, razz_o
 ghost use Rattle.variant_table.specs.TableLaws.{same_order, values_of};
 
 use crate::deck::WHOLE_DECK;
-use crate::street::hole_cards;
+use crate::street::new_hole_street;
 use crate::variant::Variant;
 use hand_order::Pick;
 use high_rank::High;
@@ -186,9 +186,9 @@ fn stud_street(number: u8) -> Street
     ensures { slice_get stud_streets (number - 1) ≡ Some result }
 {
     match number {
-        1 => hole_cards(2, 1, Size::Small),
-        2 => hole_cards(0, 1, Size::Small),
-        3 | 4 => hole_cards(0, 1, Size::Big),
-        _ => hole_cards(1, 0, Size::Big),
+        1 => new_hole_street(2, 1, Size::Small),
+        2 => new_hole_street(0, 1, Size::Small),
+        3 | 4 => new_hole_street(0, 1, Size::Big),
+        _ => new_hole_street(1, 0, Size::Big),
     }
 }

@@ -2,7 +2,7 @@
 use Rattle.std.proofs.Common.{◌≡◌, ℕ, Bool, List, filter, length, ap, ◌∙◌}
 use Rattle.card_set.specs.declared.card.Card.{Card}
 use Rattle.card_set.specs.Row.{cards_of, slots_of}
-use Rattle.card_set.specs.Known.{known_cards}
+use Rattle.card_set.specs.Known.{known_among}
 use Rattle.play_event.specs.CardReasons.{has_no_place}
 use Rattle.play_event.specs.NameMatching.{after_matching, blanks_in, discarded_now, unmatched_names}
 use Rattle.play_event.specs.Places.{Place, is_held_by}
@@ -23,9 +23,9 @@ returns c =
       after = c.named_cards.ensures.after
           ∙ ap (λ (p : Place → Bool). after_matching p mark names (unmatched_names (filter p ps) names) c.blanks-blanks.result ps) all
           ∙ ap (λ (cs : List Card). after_matching (is_held_by seat) mark cs (unmatched_names (filter (is_held_by seat) ps) cs) c.blanks-blanks.result ps) c.known_cards-names.ensures
-          ∙ ap (λ (n : ℕ). after_matching (is_held_by seat) mark (known_cards cards) (unmatched_names (filter (is_held_by seat) ps) (known_cards cards)) n ps) blanks;
+          ∙ ap (λ (n : ℕ). after_matching (is_held_by seat) mark (known_among cards) (unmatched_names (filter (is_held_by seat) ps) (known_among cards)) n ps) blanks;
       lacking = c.named_cards.ensures.lacking
           ∙ ap (λ (p : Place → Bool). has_no_place (filter p ps) names c.blanks-blanks.result) all
           ∙ ap (λ (cs : List Card). has_no_place (filter (is_held_by seat) ps) cs c.blanks-blanks.result) c.known_cards-names.ensures
-          ∙ ap (λ (n : ℕ). has_no_place (filter (is_held_by seat) ps) (known_cards cards) n) blanks;
+          ∙ ap (λ (n : ℕ). has_no_place (filter (is_held_by seat) ps) (known_among cards) n) blanks;
     }

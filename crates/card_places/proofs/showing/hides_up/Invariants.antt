@@ -7,4 +7,4 @@ use Rattle.card_places.proofs.showing.hides_up.Given as goal
 
 abbrev pub invariant-loop-row : goal.invariant-loop-row
 invariant-loop-row l =
-    list_any known.is_unknown (plain.up_slots l.table.code (map place_of (drop l.row-index l.rows)) l.seat.number) ≡ list_any known.is_unknown (plain.up_slots l.table.code (map place_of l.rows) l.seat.number)
+    list_any known.hides_card (plain.up_slots l.table.code (map place_of (drop l.row-index l.rows)) l.seat.number) ≡ list_any known.hides_card (plain.up_slots l.table.code (map place_of l.rows) l.seat.number)

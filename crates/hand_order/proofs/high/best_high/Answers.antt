@@ -23,7 +23,7 @@ above_number-plain-requires-clause-class c =
     let all = shows levels.all 1 (omega arith) says.small.0 says.all in
     let best = c.best_pattern-pattern.ensures (times high_ace (listed c.args.cards.now)) (are_counts (listed c.args.cards.now) lists.different (omega (arith, count_of-listing set (listed c.args.cards.now) lists, c.requires))) all (shows levels.two 2 (omega arith) says.small.1 says.two) (shows levels.three 3 (omega arith) says.small.2 says.three) (shows levels.four 4 (omega arith) says.small.3 says.four) in
     let level = leveled_few c.args.flush c.best_pattern-pattern.result.class best.best.kind in
-    omega (arith, c.flush_ranked.ensures)
+    omega (arith, c.adjust_class.ensures)
 
 pub above_number-plain-requires-clause-below : goal.above_number-plain-requires-clause-below
 above_number-plain-requires-clause-below c =
@@ -64,4 +64,4 @@ returns c = λ listing lists.
       of_hearts = c.suit_points-3.ensures (times high_ace (filter (of_suit 2) listing)) (ranks 2) (suited c.rank_mask-hearts.result 2 c.rank_mask-hearts.ensures.within hearts);
       of_spades = c.suit_points-4.ensures (times high_ace (filter (of_suit 3) listing)) (ranks 3) (suited c.rank_mask-spades.result 3 c.rank_mask-spades.ensures.within spades);
     })
-    (omega (arith, c.above_number-plain.ensures, c.flush_ranked.ensures, best.written, c.straight_points-straight.ensures, c.max.ensures, c.max-2.ensures, c.max-3.ensures, c.max-4.ensures, c.max-5.ensures))
+    (omega (arith, c.above_number-plain.ensures, c.adjust_class.ensures, best.written, c.straight_points-straight.ensures, c.max.ensures, c.max-2.ensures, c.max-3.ensures, c.max-4.ensures, c.max-5.ensures))

@@ -18,7 +18,7 @@ above_number-suited-requires-clause-below c = omega (arith, c.with_top_digits.en
 
 pub returns : goal.returns
 returns c = λ T of shows.
-    let number : c.above_number-suited.result ≡ class_above (flush_class c.args.flush) (tops 5 c.args.mask) = omega (arith, c.above_number-suited.ensures, c.flush_class.ensures, c.with_top_digits.ensures) in
+    let number : c.above_number-suited.result ≡ class_above (flush_class c.args.flush) (tops 5 c.args.mask) = omega (arith, c.above_number-suited.ensures, c.class_of_flush.ensures, c.with_top_digits.ensures) in
     suit_best c.args.flush c.args.low T c.args.mask c.top_straight.result c.max.result of shows
     (omega (arith, tops_many 5 c.args.mask (omega (arith, c.requires)) (omega (arith, c.if-mask-lt5.false))))
     (λ top. c.top_straight.ensures.most T top shows) (c.top_straight.ensures.found T shows)

@@ -9,12 +9,12 @@ use Rattle.low_rank.proofs.EightRanks.{low_ranks_few, low_ranks_five}
 use Rattle.low_rank.proofs.eight.best_eight.Goals as goal
 use Rattle.card_set.proofs.Bits.{all_level, or_four}
 
-pub class_above-requires-clause-below : goal.class_above-requires-clause-below
-class_above-requires-clause-below c = low_number (has_height (bit_or (bit_or (bit_or c.rank_mask-clubs.result c.rank_mask-diamonds.result) c.rank_mask-hearts.result) c.rank_mask-spades.result)) c.as_slice.result.now (c.as_slice.ensures ∙ c.lowest_ranks-ranks.ensures.list)
+pub make_points-requires-clause-below : goal.make_points-requires-clause-below
+make_points-requires-clause-below c = low_number (has_height (bit_or (bit_or (bit_or c.rank_mask-clubs.result c.rank_mask-diamonds.result) c.rank_mask-hearts.result) c.rank_mask-spades.result)) c.as_slice.result.now (c.as_slice.ensures ∙ c.lowest_ranks-ranks.ensures.list)
 
 pub overflow_sub-result : goal.overflow_sub-result
 overflow_sub-result c =
-    omega (arith, c.class_above.ensures, low_number (has_height (bit_or (bit_or (bit_or c.rank_mask-clubs.result c.rank_mask-diamonds.result) c.rank_mask-hearts.result) c.rank_mask-spades.result)) c.as_slice.result.now (c.as_slice.ensures ∙ c.lowest_ranks-ranks.ensures.list))
+    omega (arith, c.make_points.ensures, low_number (has_height (bit_or (bit_or (bit_or c.rank_mask-clubs.result c.rank_mask-diamonds.result) c.rank_mask-hearts.result) c.rank_mask-spades.result)) c.as_slice.result.now (c.as_slice.ensures ∙ c.lowest_ranks-ranks.ensures.list))
 
 pub returns-then-all-lt5 : goal.returns-then-all-lt5
 returns-then-all-lt5 c = λ listing lists.
@@ -38,5 +38,5 @@ returns c = λ listing lists.
     let has = has_height (bit_or (bit_or (bit_or c.rank_mask-clubs.result c.rank_mask-diamonds.result) c.rank_mask-hearts.result) c.rank_mask-spades.result) in
     let list = c.as_slice.ensures ∙ c.lowest_ranks-ranks.ensures.list in
     let five = low_ranks_five _ (or_four c.rank_mask-clubs.result c.rank_mask-diamonds.result c.rank_mask-hearts.result c.rank_mask-spades.result c.rank_mask-clubs.ensures.within c.rank_mask-diamonds.ensures.within c.rank_mask-hearts.ensures.within c.rank_mask-spades.ensures.within) (omega (arith, c.if-all-lt5.false)) in
-    ap (λ (n : ℕ). Some (16 ^ 6 - n)) (c.class_above.ensures ∙ ap (λ (l : List ℕ). class_above 0 l) list)
+    ap (λ (n : ℕ). Some (16 ^ 6 - n)) (c.make_points.ensures ∙ ap (λ (l : List ℕ). class_above 0 l) list)
     ∙ eight_best has listing lists.different (mask_tells listing _ shows) five

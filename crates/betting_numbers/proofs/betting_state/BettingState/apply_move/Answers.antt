@@ -9,7 +9,7 @@ use Rattle.chip_ledger.specs.declared.seat_row.TheConstants.{MOST_AMOUNT}
 use Rattle.chip_ledger.specs.LiveRow.{flag_of}
 use Rattle.chip_ledger.specs.Seat.{seats_of}
 use Rattle.chip_ledger.specs.SeatRow.{amount_of, total_of}
-use Rattle.play_event.specs.Past.{is_fold}
+use Rattle.play_event.specs.Past.{is_folding}
 use Rattle.play_event.specs.Played.{act_said}
 use Rattle.betting_numbers.proofs.OneChanged.{count_fell, greatest_changed, sum_changed}
 use Rattle.betting_numbers.proofs.betting_state.BettingState.apply_move.Goals as goal
@@ -46,7 +46,7 @@ invariant_of-self-clause-live_is c =
     let seat = c.args.seat.number in
     let was = c.get-was_live.result in
     let is = c.live_after-live.result in
-    let fell = count_fell (flag_of b.live) (flag_of c.set-3.new.self) 1 b.setup.stacks.seats seat was is c.args.seat.first (omega (arith, c.requires.in_hand)) c.get-was_live.ensures (sym c.set-3.ensures.flag) (λ yes. (and_parts was (not (is_fold (act_said c.args.act))) (sym c.live_after-live.ensures ∙ yes)).0) (λ j from to other. c.set-3.ensures.others j from other) in
+    let fell = count_fell (flag_of b.live) (flag_of c.set-3.new.self) 1 b.setup.stacks.seats seat was is c.args.seat.first (omega (arith, c.requires.in_hand)) c.get-was_live.ensures (sym c.set-3.ensures.flag) (λ yes. (and_parts was (not (is_folding (act_said c.args.act))) (sym c.live_after-live.ensures ∙ yes)).0) (λ j from to other. c.set-3.ensures.others j from other) in
     c.count_after-live_count.ensures ∙ ap (λ (count : ℕ). if was && not is then count - 1 else count) b.live_is ∙ sym fell
 
 able_before : (was is : Bool) (stack put added : ℕ) → (is ≡ true → was ≡ true) → (is && nat_lt 0 (stack - (put + added))) ≡ true → (was && nat_lt 0 (stack - put)) ≡ true
@@ -79,7 +79,7 @@ invariant_of-self-clause-able_is c =
     ∙ ap (λ (l : Bool). l && nat_lt 0 (amount_of b.setup.stacks seat - amount_of b.puts seat)) (sym c.get-was_live.ensures)
     ∙ ap (λ (s : ℕ). was_live && nat_lt 0 (s - amount_of b.puts seat)) (sym c.get.ensures)
     ∙ ap (λ (n : ℕ). was_live && nat_lt 0 (c.get.result - n)) (sym c.get-put.ensures) in
-    let stays : is_live ≡ true → was_live ≡ true = λ yes. (and_parts was_live (not (is_fold (act_said c.args.act))) (sym c.live_after-live.ensures ∙ yes)).0 in
+    let stays : is_live ≡ true → was_live ≡ true = λ yes. (and_parts was_live (not (is_folding (act_said c.args.act))) (sym c.live_after-live.ensures ∙ yes)).0 in
     let fell = count_fell before after 1 b.setup.stacks.seats seat was is c.args.seat.first (omega (arith, c.requires.in_hand)) c.can_act-was_able.ensures is_is
     (λ yes. was_is ∙ able_before was_live is_live c.get.result put added stays (sym c.able_after-able.ensures ∙ yes))
     (λ j from to other. ap (λ (l : Bool). l && nat_lt 0 (amount_of b.setup.stacks j - amount_of puts j)) (c.set-3.ensures.others j from other)
@@ -117,7 +117,7 @@ returns c = record {
   other_bets = c.set.ensures.others;
   puts = omega (arith, c.set-2.ensures.amount, c.get-bet.ensures, c.get-put.ensures, c.saturating_sub-added.ensures);
   other_puts = c.set-2.ensures.others;
-  live = c.set-3.ensures.flag ∙ c.live_after-live.ensures ∙ ap (λ live. live && not (is_fold (act_said c.args.act))) c.get-was_live.ensures;
+  live = c.set-3.ensures.flag ∙ c.live_after-live.ensures ∙ ap (λ live. live && not (is_folding (act_said c.args.act))) c.get-was_live.ensures;
   other_live = c.set-3.ensures.others;
   moved = c.set-4.ensures.flag;
   other_moved = c.set-4.ensures.others;

@@ -5,7 +5,7 @@ use Rattle.card_set.specs.Row.{cards_of}
 use Rattle.play_event.specs.Said.{kind_said}
 use Rattle.play_event.specs.Said as said
 use Rattle.card_places.specs.Dealt.{IsDealt}
-use Rattle.card_places.specs.Refusals.{illegal_board_deal}
+use Rattle.card_places.specs.Refusals.{board_deal_reason}
 use Rattle.card_places.proofs.Fits.{hole_owed, board_owed}
 use Rattle.deal_core.proofs.Answers.{board_answered, hole_answered}
 use Rattle.deal_core.proofs.Games.{due_in}
@@ -24,7 +24,7 @@ put-requires-in-None-illegal_board_deal g c =
     rw (← c.self-in-Board.view_is) λ on street.
     board_owed c.self-in-Board.inside.state c.args.due on c.as_slice-in-None-illegal_board_deal.result.now street
     (due_in c.self-in-Board.inside.state.table.code g.V.Variant.CODE _ c.args.due c.self-in-Board.invariant g.met.V.Variant.values.streets_is c.requires.due)
-    (ap (illegal_board_deal c.self-in-Board.inside.state c.args.due) same ∙ sym c.illegal_board_deal.ensures ∙ c.in-None-illegal_board_deal.is)
+    (ap (board_deal_reason c.self-in-Board.inside.state c.args.due) same ∙ sym c.illegal_board_deal.ensures ∙ c.in-None-illegal_board_deal.is)
 
 pub returns-in-Some : goal.returns-in-Some
 returns-in-Some g c =
@@ -48,7 +48,7 @@ returns-in-Some-illegal_board_deal g c =
     let same = c.as_slice.ensures ∙ c.slots-known.ensures in
     rw (← c.self-in-Board.view_is)
     (board_answered t t c.args.due c.args.live.now (cards_of c.in-Board.cards) c.args.event.now.kind _ (ap kind_said c.in-Board.is)
-    tt (ap (illegal_board_deal t c.args.due) (sym same) ∙ sym c.illegal_board_deal.ensures ∙ c.in-Some-illegal_board_deal.is) (λ on street. tt) (of_itself t) refl)
+    tt (ap (board_deal_reason t c.args.due) (sym same) ∙ sym c.illegal_board_deal.ensures ∙ c.in-Some-illegal_board_deal.is) (λ on street. tt) (of_itself t) refl)
 
 pub returns-in-None-illegal_board_deal : goal.returns-in-None-illegal_board_deal
 returns-in-None-illegal_board_deal g c =
@@ -58,5 +58,5 @@ returns-in-None-illegal_board_deal g c =
     let put = c.put-in-None-illegal_board_deal in
     rw (← c.self-in-Board.view_is)
     (board_answered t put.new.self c.args.due c.args.live.now (cards_of c.in-Board.cards) c.args.event.now.kind _ (ap kind_said c.in-Board.is)
-    (ap (illegal_board_deal t c.args.due) (sym same) ∙ sym c.illegal_board_deal.ensures ∙ c.in-None-illegal_board_deal.is) tt
+    (ap (board_deal_reason t c.args.due) (sym same) ∙ sym c.illegal_board_deal.ensures ∙ c.in-None-illegal_board_deal.is) tt
     (λ on street. subst (λ (cards : List Slot). IsDealt t put.new.self None on cards) laid (rw c.self-in-Board.view_is (put.ensures.dealt on street))) (rw c.self-in-Board.view_is put.ensures.hand) tt)

@@ -1,7 +1,7 @@
 -- A discard is answered as the rules do, and if it is refused the state is unchanged.
 use Rattle.std.proofs.Common.{◌≡◌, ℕ, Some, OnOk, rules, ap, subst, refl, ◌∙◌}
 use Rattle.card_places.specs.Discarded.{IsDiscarded}
-use Rattle.card_places.specs.Refusals.{illegal_discard}
+use Rattle.card_places.specs.Refusals.{discard_reason}
 use Rattle.card_set.specs.Row.{slots_of}
 use Rattle.play_event.specs.declared.reason.Due.{Due}
 use Rattle.play_event.specs.declared.reason.Illegal.TheVariants as reasons
@@ -17,14 +17,14 @@ returns-in-Over g c =
     let cards = slots_of c.in-Discard.cards in
     rw (← c.self.view_is)
     (discard_answered t t c.args.due c.args.live.now c.in-Discard.seat.number cards c.args.event.now.kind _
-    (ap kind_said c.in-Discard.is) tt (ap (λ (due : Due). illegal_discard t c.args.live.now due c.in-Discard.seat.number cards) c.in-Over.is) (λ on street. tt) (of_itself t) refl)
+    (ap kind_said c.in-Discard.is) tt (ap (λ (due : Due). discard_reason t c.args.live.now due c.in-Discard.seat.number cards) c.in-Over.is) (λ on street. tt) (of_itself t) refl)
 
 pub returns-in-Draw : goal.returns-in-Draw
 returns-in-Draw g c =
     let t = c.self.inside.state in
     let seat = c.in-Discard.seat.number in
     let cards = slots_of c.in-Discard.cards in
-    let on_draw = ap (λ (due : Due). illegal_discard t c.args.live.now due seat cards) c.in-Draw.is in
+    let on_draw = ap (λ (due : Due). discard_reason t c.args.live.now due seat cards) c.in-Draw.is in
     let answer = c.discard.result in
     rw (← c.self.view_is)
     (discard_answered t c.discard.new.self c.args.due c.args.live.now seat cards c.args.event.now.kind answer
@@ -38,7 +38,7 @@ pub returns-in-Deal : goal.returns-in-Deal
 returns-in-Deal g c =
     let t = c.self.inside.state in
     let cards = slots_of c.in-Discard.cards in
-    let wrong : illegal_discard t c.args.live.now c.args.due c.in-Discard.seat.number cards ≡ Some reasons.WrongKind = search rules in
+    let wrong : discard_reason t c.args.live.now c.args.due c.in-Discard.seat.number cards ≡ Some reasons.WrongKind = search rules in
     rw (← c.self.view_is)
     (discard_answered t t c.args.due c.args.live.now c.in-Discard.seat.number cards c.args.event.now.kind _
     (ap kind_said c.in-Discard.is) tt wrong (λ on street. tt) (of_itself t) refl)

@@ -4,7 +4,7 @@ use Rattle.card_set.specs.Row.{cards_of}
 use Rattle.play_event.specs.CardReasons as reasons
 use Rattle.play_event.specs.NameMatching as naming
 use Rattle.card_places.specs.Plain.{place_of}
-use Rattle.card_places.proofs.naming.has_left_out_card.Given as goal
+use Rattle.card_places.proofs.naming.omits_known_card.Given as goal
 
 abbrev pub invariant-loop-row : goal.invariant-loop-row
 invariant-loop-row l =
