@@ -10,7 +10,7 @@ use Rattle.chip_ledger.specs.Rakes.{nets_from}
 use Rattle.chip_ledger.specs.SeatRow.{amount_of}
 use Rattle.canon_laws.proofs.SameCore.{plain_again}
 use Rattle.play_event.specs.CanonScript.{plain_moves}
-use Rattle.play_event.specs.PlayedScript.{IsWithinLimits, is_move}
+use Rattle.play_event.specs.PlayedScript.{IsWithinLimits, is_move_event}
 use Rattle.play_event.specs.TraceCore.{TraceCore, core_of}
 use Rattle.card_set.proofs.Sums.{sum_by-map}
 use Rattle.play_event.specs.declared.event.Event.{Event}
@@ -57,4 +57,4 @@ finish_is setup past rows left returned finish seat left_is returned_is is =
     ∙ ap (λ (moves : List Move). finishing_stack setup moves (map amount_of rows) seat) (sym (plain_again setup (moves_of past)))
 
 pub few_events : (script : List Event) → IsWithinLimits (said_by script) → length script ≤ 4352
-few_events script within = omega (arith, count_both is_move (said_by script), length-map script said_of, within.moves, within.others)
+few_events script within = omega (arith, count_both is_move_event (said_by script), length-map script said_of, within.moves, within.others)

@@ -3,7 +3,7 @@ use Rattle.std.proofs.Common.{◌≡◌, true, false, [], ◌∷◌, ◌++◌, S
 use Rattle.std.proofs.lemmas.Bool.{true≢false}
 use Rattle.std.proofs.lemmas.List.{append-nil}
 use Rattle.play_event.specs.declared.setup.Setup.{Setup}
-use Rattle.play_event.specs.Past.{Past, Move, Moved, Folded, Called, Raised, BroughtIn, is_fold, moves_of}
+use Rattle.play_event.specs.Past.{Past, Move, Moved, Folded, Called, Raised, BroughtIn, is_folding, moves_of}
 use Rattle.play_event.specs.Chips.{street_chips}
 use Rattle.play_event.specs.Due.{turn}
 use Rattle.play_event.specs.PlayerToAct.{player_to_act}
@@ -60,22 +60,22 @@ IsStepped setup past event moved = (move : Move) → with_event setup event past
 
 -- the cards after a move that is a fold
 pub folded_stands : (t next : CardState) (setup : Setup) (past : Past) (event : Said) (moved : rows.Move) → is_card_said event ≡ false → IsStepped setup past event moved
-    → ((move : Move) → is_fold move.act ≡ true → move.seat ≡ moved.seat.number → StandsFor next (Moved move ∷ past))
-    → is_fold (act_said moved.act) ≡ true → StandsFor next (with_event setup event past)
+    → ((move : Move) → is_folding move.act ≡ true → move.seat ≡ moved.seat.number → StandsFor next (Moved move ∷ past))
+    → is_folding (act_said moved.act) ≡ true → StandsFor next (with_event setup event past)
 folded_stands t next setup past event moved bet stepped folded is =
     let made = made_move setup past event bet in
     let same = stepped made.move made.made in
     subst (StandsFor next) (sym made.made)
-    (folded made.move (ap (λ (m : TracedMove). is_fold m.act) (sym same) ∙ is) (ap (λ (m : TracedMove). m.seat) (sym same)))
+    (folded made.move (ap (λ (m : TracedMove). is_folding m.act) (sym same) ∙ is) (ap (λ (m : TracedMove). m.seat) (sym same)))
 
 -- and after another move
 pub moved_stands : (t : CardState) (setup : Setup) (past : Past) (event : Said) (moved : rows.Move) → is_card_said event ≡ false → IsStepped setup past event moved
-    → StandsFor t past → is_fold (act_said moved.act) ≡ false → StandsFor t (with_event setup event past)
+    → StandsFor t past → is_folding (act_said moved.act) ≡ false → StandsFor t (with_event setup event past)
 moved_stands t setup past event moved bet stepped stands is =
     let made = made_move setup past event bet in
     let same = stepped made.move made.made in
     subst (StandsFor t) (sym made.made)
-    (move_kept t past made.move stands (ap (λ (m : TracedMove). is_fold m.act) (sym same) ∙ is))
+    (move_kept t past made.move stands (ap (λ (m : TracedMove). is_folding m.act) (sym same) ∙ is))
 
 -- the moves of the trace after a move
 pub move_told : (b : BettingState) (past : Past) (event : Said) (moved : rows.Move) → is_card_said event ≡ false → IsStepped b.setup past event moved → AddsMove b event past (Some moved)

@@ -11,7 +11,7 @@ use Rattle.card_set.specs.declared.card.Card.{Card}
 use Rattle.card_set.specs.declared.card.Slot.TheVariants as slots
 use Rattle.card_set.specs.declared.row.CardRow.{CardRow}
 use Rattle.card_set.specs.Different.{AllDifferent}
-use Rattle.card_set.specs.Known.{known_cards}
+use Rattle.card_set.specs.Known.{known_among}
 use Rattle.card_set.specs.Row.{cards_of}
 use Rattle.chip_ledger.specs.declared.live_row.LiveRow.{LiveRow}
 use Rattle.chip_ledger.specs.LiveRow.{flag_of, flagged}
@@ -93,15 +93,15 @@ mucked_are setup rules events live mucked unknown shown hands board row ends sam
     ∙ ap (λ b. is_contested setup (past_of setup events) && is_live (moves_of (past_of setup events)) seat && not b) (shown_as setup rules events live mucked unknown shown hands board ends seat low most))
 
 -- the cards of a shown seat are a whole hand
-whole_hand : (setup : Setup) (rules : Rules) (events : List Said) (seat : ℕ) → AreLegal setup rules events → is_unfinished (turn setup (past_of setup events)).1 ≡ false → 1 ≤ seat → seat ≤ setup.stacks.seats → is_shown setup (past_of setup events) seat ≡ true → length (known_cards (held_slots (Some seat) (places_of setup.code (past_of setup events)))) ≡ (game_of setup.code).hole
+whole_hand : (setup : Setup) (rules : Rules) (events : List Said) (seat : ℕ) → AreLegal setup rules events → is_unfinished (turn setup (past_of setup events)).1 ≡ false → 1 ≤ seat → seat ≤ setup.stacks.seats → is_shown setup (past_of setup events) seat ≡ true → length (known_among (held_slots (Some seat) (places_of setup.code (past_of setup events)))) ≡ (game_of setup.code).hole
 whole_hand setup rules events seat legal finished low high is =
     let past : Past = past_of setup events in
     let it = shown_seat setup past seat is in
     all_known_length (held_slots (Some seat) (places_of setup.code past)) (sym (any_held seat (places_of setup.code past)) ∙ it.known)
     ∙ whole_hands setup rules events seat (record { legal = legal; several = it.several; finished = finished }) (record { least = low; most = high; live = it.live })
 
-board_known : (code : Rattle.play_event.specs.declared.code.Code.Code) (past : Past) → known_cards (held_slots None (places_of code past)) ≡ board_cards past
-board_known code past = ap known_cards (board_held code past) ∙ all_known (board_cards past)
+board_known : (code : Rattle.play_event.specs.declared.code.Code.Code) (past : Past) → known_among (held_slots None (places_of code past)) ≡ board_cards past
+board_known code past = ap known_among (board_held code past) ∙ all_known (board_cards past)
 
 whole_board : (setup : Setup) (rules : Rules) (events : List Said) → EndContested setup rules events → length (board_cards (past_of setup events)) ≡ (game_of setup.code).board
 whole_board setup rules events ends =
@@ -113,9 +113,9 @@ whole_board setup rules events ends =
 pub playable : (setup : Setup) (rules : Rules) (events : List Said) (live mucked unknown shown : LiveRow) (hands : HandRow) (board : CardRow) (held : ℕ) (pick : Pick) → IsEnd setup rules events live mucked unknown shown hands board → IsUsable (game_of setup.code) held pick → ArePlayable held pick hands board shown
 playable setup rules events live mucked unknown shown hands board held pick ends usable_by =
     let past : Past = past_of setup events in
-    let cards : ℕ → List Card = λ n. known_cards (held_slots (Some n) (places_of setup.code past)) in
+    let cards : ℕ → List Card = λ n. known_among (held_slots (Some n) (places_of setup.code past)) in
     let within : (n : ℕ) → n ≤ shown.seats → n ≤ setup.stacks.seats = λ n last. omega (arith, last, ends.shown_seats, ends.live_seats) in
-    let same : (n : ℕ) → 1 ≤ n → n ≤ shown.seats → holding hands n ≡ cards n = λ n low last. ap known_cards (ends.holds n low (within n last)) in
+    let same : (n : ℕ) → 1 ≤ n → n ≤ shown.seats → holding hands n ≡ cards n = λ n low last. ap known_among (ends.holds n low (within n last)) in
     record {
       usable = λ n low last flag.
           let is = sym (shown_as setup rules events live mucked unknown shown hands board ends n low (within n last)) ∙ flag in
@@ -125,7 +125,7 @@ playable setup rules events live mucked unknown shown hands board held pick ends
           (ap length ends.boards ∙ whole_board setup rules events contested);
       different = λ n low last flag.
           subst AllDifferent
-          (ap (λ l. l ++ known_cards (held_slots None (places_of setup.code past))) (sym (same n low last)) ∙ ap (λ l. holding hands n ++ l) (board_known setup.code past ∙ sym ends.boards))
+          (ap (λ l. l ++ known_among (held_slots None (places_of setup.code past))) (sym (same n low last)) ∙ ap (λ l. holding hands n ++ l) (board_known setup.code past ∙ sym ends.boards))
           (cards_differ setup rules events n ends.legal);
     }
 
@@ -139,8 +139,8 @@ rows_show setup rules events live mucked unknown shown hands board ends =
       shown = λ seat low high. sym (is_flagged-flag shown seat low) ∙ ap (list_any (λ n. n == seat)) (shown_are setup rules events live mucked unknown shown hands board ends);
       holding = λ seat low high flag.
           let is = sym (shown_as setup rules events live mucked unknown shown hands board ends seat low (within seat high)) ∙ flag in
-          ap known_cards (ends.holds seat low (within seat high)
+          ap known_among (ends.holds seat low (within seat high)
           ∙ sym (discarded_same (finals_of setup (places_of setup.code past) (street_count setup.code)) seat 0
           ∙ held_script setup rules events seat ends.legal low (within seat high) (shown_seat setup past seat is).live));
-      board = ends.boards ∙ sym (ap known_cards (traced_board setup rules events ends.legal) ∙ board_known setup.code past);
+      board = ends.boards ∙ sym (ap known_among (traced_board setup rules events ends.legal) ∙ board_known setup.code past);
     }

@@ -1,6 +1,7 @@
 //! Why a script has no trace.
-ghost use Rattle.std.specs.Prelude.{Some};
+ghost use Rattle.std.specs.Prelude.{◌≡◌, Some};
 ghost use Rattle.replay_core.specs.FaultText.{fault_text};
+ghost use Rattle.replay_core.specs.declared.fault.ReplayFault.TheVariants as faults;
 
 use card_set::Memory;
 use play_event::Illegal;
@@ -20,6 +21,14 @@ pub enum ReplayFault {
     /// The first pot, from 1, that two or more seats may win, but none of these seats has shown.
     NoShownHand { pot: u8 },
     Memory(Memory),
+}
+
+impl From<Memory> for ReplayFault {
+    ghost from_gives = { λ memory fault. fault ≡ faults.Memory memory };
+
+    fn from(memory: Memory) -> Self {
+        ReplayFault::Memory(memory)
+    }
 }
 
 impl fmt::Display for ReplayFault {

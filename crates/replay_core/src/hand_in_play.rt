@@ -6,8 +6,7 @@ ghost use Rattle.chip_ledger.specs.SeatRow.{amount_of};
 ghost use Rattle.deal_core.specs.Answered.{IsAnswered, IsSettledAs};
 ghost use Rattle.play_event.specs.Chips.{chips_left, chips_put};
 ghost use Rattle.play_event.specs.Due.{turn};
-ghost use Rattle.play_event.specs.Past.{Past, is_fold, moves_of};
-ghost use Rattle.play_event.specs.Played.{act_said};
+ghost use Rattle.play_event.specs.Past.{Past, moves_of};
 ghost use Rattle.play_event.specs.Said.{said_of};
 ghost use Rattle.play_event.specs.Seats.{is_live};
 ghost use Rattle.play_event.specs.ValidSetup.{IsValid};
@@ -22,7 +21,7 @@ ghost use Rattle.replay_core.specs.AddedMoves.{HoldsForSeats, WhereTogether};
 use betting_core::Betting;
 use chip_ledger::{LiveRow, SeatRow};
 use deal_core::Cards;
-use play_event::{Act, Due, Event, Illegal, Kind, Move, Opener, Rules, Setup, UpRow};
+use play_event::{Due, Event, Illegal, Kind, Move, Opener, Rules, Setup, UpRow};
 use variant_table::Variant;
 
 /// A hand of the game `V` at some moment: its betting and its cards.
@@ -108,11 +107,8 @@ impl<V: Variant> HandInPlay<V> {
         ensures unchanged { OnErr result (self.new ≡ self.old) }
     {
         let up = self.opening_up_cards();
-        let moved = match self.betting.step(&up, event) {
-            Ok(moved) => moved,
-            Err(reason) => return Err(reason),
-        };
-        if folds(moved.act) {
+        let moved = self.betting.step(&up, event)?;
+        if moved.act.is_fold() {
             self.cards.folded(moved.seat);
         }
         Ok(Some(moved))
@@ -147,13 +143,9 @@ impl<V: Variant> HandInPlay<V> {
         let due = self.betting.due();
         let live = self.betting.live();
         let settled = self.betting.settled();
-        match lay(&mut self.cards, due, &live, settled, event) {
-            Ok(()) => {
-                self.end();
-                Ok(None)
-            }
-            Err(reason) => Err(reason),
-        }
+        apply_cards(&mut self.cards, due, &live, settled, event)?;
+        self.end();
+        Ok(None)
     }
 
     // Ends what is due, and then the showdown, if they are complete.
@@ -218,18 +210,8 @@ impl<V: Variant> HandInPlay<V> {
     }
 }
 
-// Whether the act is a fold.
-fn folds(act: Act) -> bool
-    ensures { result ≡ is_fold (act_said act) }
-{
-    match act {
-        Act::Fold => true,
-        Act::Call | Act::Raise | Act::BringIn => false,
-    }
-}
-
 // Applies an event of cards: a deal, a discard, a show or a muck.
-fn lay<V: Variant>(
+fn apply_cards<V: Variant>(
     cards: &mut Cards<V>,
     due: Due,
     live: &LiveRow,

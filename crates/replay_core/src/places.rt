@@ -12,7 +12,7 @@ ghost use Rattle.play_event.specs.Places.{group_of};
 
 use card_places::DealtCard;
 use card_set::Memory;
-use chip_ledger::Seat;
+use chip_ledger::{PlayerCount, Seat};
 use deal_core::Cards;
 use hand_canon::Places;
 use play_event::Place;
@@ -27,7 +27,10 @@ pub fn places_of<V: Variant>(alloc: Global, cards: &Cards<V>) -> Result<Places, 
         → IfOk result (λ places. map place_said places ≡ traced_places setup past) }
 {
     let mut places = Places::new(alloc);
-    push_streets(&mut places, cards.dealt(), cards.seats(), 0, V::STREETS)?;
+    let players = PlayerCount {
+        number: cards.seats(),
+    };
+    push_streets(&mut places, cards.dealt(), players, 0, V::STREETS)?;
     Ok(places)
 }
 
@@ -35,34 +38,33 @@ pub fn places_of<V: Variant>(alloc: Global, cards: &Cards<V>) -> Result<Places, 
 fn push_streets(
     places: &mut Places,
     dealt: &[DealtCard],
-    seats: u8,
+    players: PlayerCount,
     before: u8,
     count: u8,
 ) -> Result<(), Memory>
-    requires seats { seats ≤ 10 }
-    requires within { before + count ≤ 255 }
+    requires { before + count ≤ 255 }
     ensures { OnOk result (map place_said places.new ≡ map place_said places.old
-        ++ map traced_place (on_streets seats (map place_of dealt.now) (before + 1) count)) }
+        ++ map traced_place
+        (on_streets players.number (map place_of dealt.now) (before + 1) count)) }
 {
     if count == 0 {
         return Ok(());
     }
-    push_street(places, dealt, seats, before + 1)?;
-    push_streets(places, dealt, seats, before + 1, count - 1)
+    push_street(places, dealt, players, before + 1)?;
+    push_streets(places, dealt, players, before + 1, count - 1)
 }
 
 // Appends the cards of a street: first those of the seats, and then the board's.
 fn push_street(
     places: &mut Places,
     dealt: &[DealtCard],
-    seats: u8,
+    players: PlayerCount,
     street: u8,
 ) -> Result<(), Memory>
-    requires seats { seats ≤ 10 }
     ensures { OnOk result (map place_said places.new ≡ map place_said places.old
-        ++ map traced_place (on_street seats (map place_of dealt.now) street)) }
+        ++ map traced_place (on_street players.number (map place_of dealt.now) street)) }
 {
-    push_seats(places, dealt, street, 1, seats)?;
+    push_seats(places, dealt, street, 1, players.number)?;
     push_group(places, dealt, None, street)
 }
 

@@ -41,17 +41,11 @@ pub fn play_out<V: Variant>(
 {
     let mut hand = HandInPlay::<V>::start(setup, rules);
     let mut moves = Moves::new(alloc);
-    let events = match play_events(&mut hand, &mut moves, script) {
-        Ok(events) => events,
-        Err(fault) => return Err(fault),
-    };
+    let events = play_events(&mut hand, &mut moves, script)?;
     if is_unfinished(hand.due()) {
         return Err(ReplayFault::EndsEarly { events });
     }
-    match at_end(alloc, &hand, moves) {
-        Ok(ended) => Ok(ended),
-        Err(memory) => Err(ReplayFault::Memory(memory)),
-    }
+    Ok(at_end(alloc, &hand, moves)?)
 }
 
 /// Plays the events of a script from the first to the last, and counts them.
@@ -79,10 +73,7 @@ pub fn play_events<V: Variant>(
     let mut cursor = script.cursor();
     let mut count: u32 = 0;
     while let Some(event) = cursor.next() {
-        match play_event(hand, moves, &event, count + 1) {
-            Ok(()) => {}
-            Err(fault) => return Err(fault),
-        }
+        play_event(hand, moves, &event, count + 1)?;
         count += 1;
     }
     Ok(count)
@@ -111,10 +102,7 @@ fn play_event<V: Variant>(
     ensures kept { OnErr result (moves.new ≡ moves.old) }
 {
     match hand.advance(event) {
-        Ok(added) => match tell(moves, added) {
-            Ok(()) => Ok(()),
-            Err(memory) => Err(ReplayFault::Memory(memory)),
-        },
+        Ok(added) => Ok(push_move(moves, added)?),
         Err(why) => Err(ReplayFault::Illegal {
             event: number,
             at: event.at,
@@ -124,7 +112,7 @@ fn play_event<V: Variant>(
 }
 
 // Appends a move, if there is one.
-fn tell(moves: &mut Moves, added: Option<Move>) -> Result<(), Memory>
+fn push_move(moves: &mut Moves, added: Option<Move>) -> Result<(), Memory>
     ensures added { OnOk result
         (map move_said moves.new ≡ map move_said moves.old ++ moves_added added) }
     ensures kept { OnErr result (moves.new ≡ moves.old) }

@@ -81,10 +81,7 @@ fn replay_of<V: Variant>(
         (IsReplayOf setup.now rules.now (said_by script.now)) }
     ensures fault { IfErr result (IsFaultOf setup.now rules.now script.now) }
 {
-    let hand = match play_out::<V>(alloc, setup, rules, script) {
-        Ok(hand) => hand,
-        Err(fault) => return Err(fault),
-    };
+    let hand = play_out::<V>(alloc, setup, rules, script)?;
     let pots = pots_of(setup, &hand.puts, &hand.live);
     if let Some(pot) = first_rake_above(&pots, &setup.rakes) {
         return Err(ReplayFault::RakeTooBig { pot });

@@ -1,7 +1,8 @@
 //! Who is shown at the end of a hand, and who mucks, seat by seat.
 ghost use Rattle.std.specs.Prelude.{◌≡◌, ◌≤◌, ℕ};
 ghost use Rattle.chip_ledger.specs.LiveRow.{flag_of};
-ghost use Rattle.replay_core.specs.EndRows.{flag_count, is_mucked_by, is_shown_by};
+ghost use Rattle.replay_core.specs.EndRows.{is_mucked_by, is_shown_by};
+ghost use Rattle.replay_core.specs.EndRows as end_rows;
 
 use chip_ledger::{LiveRow, Seat};
 
@@ -12,7 +13,7 @@ pub fn shown_row(live: &LiveRow, mucked: &LiveRow, unknown: &LiveRow) -> LiveRow
     ensures flags { (n : ℕ) → 1 ≤ n → n ≤ live.now.seats
         → flag_of result n ≡ is_shown_by live.now mucked.now unknown.now n }
 {
-    let contested = flag_count(live) >= 2;
+    let contested = count_flags(live) >= 2;
     let mut row = LiveRow::new(live.seats);
     for index in 0..live.seats {
         let seat = Seat { number: index + 1 };
@@ -30,7 +31,7 @@ pub fn mucked_row(live: &LiveRow, shown: &LiveRow) -> LiveRow
     ensures flags { (n : ℕ) → 1 ≤ n → n ≤ live.now.seats
         → flag_of result n ≡ is_mucked_by live.now shown.now n }
 {
-    let contested = flag_count(live) >= 2;
+    let contested = count_flags(live) >= 2;
     let mut row = LiveRow::new(live.seats);
     for index in 0..live.seats {
         let seat = Seat { number: index + 1 };
@@ -43,8 +44,8 @@ pub fn mucked_row(live: &LiveRow, shown: &LiveRow) -> LiveRow
 
 // How many seats of the row have the flag.
 #[tactic(auto, using(chip_ledger::proofs::SeatLists::count_more))]
-fn flag_count(row: &LiveRow) -> u8
-    ensures { result ≡ flag_count row.now }
+fn count_flags(row: &LiveRow) -> u8
+    ensures { result ≡ end_rows.flag_count row.now }
 {
     let mut count: u8 = 0;
     for index in 0..row.seats {

@@ -2,7 +2,7 @@
 use Rattle.std.proofs.Common.{◌≡◌, ◌≤◌, count_by}
 use Rattle.chip_ledger.specs.LiveRow.{flag_of}
 use Rattle.chip_ledger.specs.Seat.{seats_of}
-use Rattle.replay_core.proofs.rows.flag_count.Given as goal
+use Rattle.replay_core.proofs.rows.count_flags.Given as goal
 
 abbrev pub invariant-loop-index : goal.invariant-loop-index
 invariant-loop-index l = (l.count ≡ count_by (flag_of l.row) (seats_of l.index)) × (l.count ≤ l.index)

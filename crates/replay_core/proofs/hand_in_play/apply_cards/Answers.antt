@@ -8,7 +8,7 @@ use Rattle.play_event.specs.Past.{Past}
 use Rattle.play_event.specs.Said.{Said}
 use Rattle.card_places.specs.declared.card_state.CardState.{CardState}
 use Rattle.deal_core.specs.Answered.{AsksNothing, IsAnswered}
-use Rattle.replay_core.proofs.hand_in_play.lay.Goals as goal
+use Rattle.replay_core.proofs.hand_in_play.apply_cards.Goals as goal
 
 anyway : {t next : CardState} {due : Due} {live : LiveRow} {event : Said} {answer : Result (Unit {0}) Illegal} (asks : Setup → Past → Type 0) → IsAnswered t next due live AsksNothing event answer → IsAnswered t next due live asks event answer
 anyway asks answered = record {
