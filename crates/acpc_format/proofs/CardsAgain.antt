@@ -5,7 +5,7 @@ use Rattle.std.proofs.lemmas.Bool.{and_parts, eq-eqb}
 use Rattle.std.proofs.lemmas.Bool.Decides.{nat_tests}
 use Rattle.std.proofs.lemmas.List.{append-nil, length-append}
 use Rattle.card_set.proofs.Spelled.{slots_spelled-spelling, length-slot_spelling}
-use Rattle.card_set.specs.Known.{is_unknown, known_cards}
+use Rattle.card_set.specs.Known.{hides_card, known_among}
 use Rattle.card_set.specs.Spelling.{slot_spelling, spelling}
 use Rattle.card_set.specs.declared.card.Slot.{Slot}
 use Rattle.card_set.specs.declared.card.Slot.TheVariants as slots
@@ -36,7 +36,7 @@ plain_no_stroke sign is = either (sign == 47) (sign == 46) (and_parts (may_stand
 
 -- the hole cards of a seat
 pub hole_plain : (placed : List TracedPlace) (seat : ℕ) → Passes is_plain (hole_text placed seat)
-hole_plain placed seat = by_known (list_any is_unknown (dealt_slots placed (Some seat) 1))
+hole_plain placed seat = by_known (list_any hides_card (dealt_slots placed (Some seat) 1))
   where
     by_known : (hidden : Bool) → Passes is_plain (if hidden then [] else spelling (dealt_slots placed (Some seat) 1))
     by_known true = passes_none is_plain
@@ -76,19 +76,19 @@ unfolding holes_text
 cut_holes placed count some = cut_seats is_plain (hole_text placed) count refl some (λ seat low high. hole_plain placed seat)
 
 -- `count` known cards read back
-pub known_again : (count : ℕ) (cards : List Slot) → length cards ≡ count → list_any is_unknown cards ≡ false → known_said count (spelling cards) ≡ Some cards
+pub known_again : (count : ℕ) (cards : List Slot) → length cards ≡ count → list_any hides_card cards ≡ false → known_said count (spelling cards) ≡ Some cards
 unfolding known_said
 known_again count cards counted known =
     rw (slots_spelled-spelling cards, eq-eqb (length cards) count counted, known) refl
 
-pub board_again : (count : ℕ) (cards : List Slot) → length cards ≡ count → list_any is_unknown cards ≡ false → board_said count (spelling cards) ≡ Some (known_cards cards)
+pub board_again : (count : ℕ) (cards : List Slot) → length cards ≡ count → list_any hides_card cards ≡ false → board_said count (spelling cards) ≡ Some (known_among cards)
 board_again count cards counted known = rw (known_again count cards counted known) refl
 
 some_letters : (cards : List Slot) → length cards ≡ 2 → eqb (length (spelling cards)) 0 ≡ false
 some_letters [] two = absurd (omega (arith, two))
 some_letters (slot ∷ cards) two = grind (arith, nat_tests, length-append (slot_spelling slot) (spelling cards), length-slot_spelling slot)
 
-both_hidden : (cards : List Slot) → length cards ≡ 2 → list_any is_unknown cards ≡ true → (list_any is_unknown cards && list_any (λ slot. not (is_unknown slot)) cards) ≡ false → cards ≡ slots.Unknown ∷ slots.Unknown ∷ []
+both_hidden : (cards : List Slot) → length cards ≡ 2 → list_any hides_card cards ≡ true → (list_any hides_card cards && list_any (λ slot. not (hides_card slot)) cards) ≡ false → cards ≡ slots.Unknown ∷ slots.Unknown ∷ []
 both_hidden [] two hidden whole = absurd (omega (arith, two))
 both_hidden (a ∷ []) two hidden whole = absurd (omega (arith, two))
 both_hidden (slots.Unknown ∷ slots.Unknown ∷ []) two hidden whole = refl
@@ -99,9 +99,9 @@ both_hidden (a ∷ b ∷ c ∷ more) two hidden whole = absurd (omega (arith, tw
 
 hole_again : (placed : List TracedPlace) (seat : ℕ) → length (dealt_slots placed (Some seat) 1) ≡ 2 → is_part_known placed seat ≡ false → hole_said (hole_text placed seat) ≡ Some (dealt_slots placed (Some seat) 1)
 unfolding hole_said
-hole_again placed seat two whole = by_known (list_any is_unknown (dealt_slots placed (Some seat) 1)) refl
+hole_again placed seat two whole = by_known (list_any hides_card (dealt_slots placed (Some seat) 1)) refl
   where
-    by_known : (hidden : Bool) → list_any is_unknown (dealt_slots placed (Some seat) 1) ≡ hidden → hole_said (if hidden then [] else spelling (dealt_slots placed (Some seat) 1)) ≡ Some (dealt_slots placed (Some seat) 1)
+    by_known : (hidden : Bool) → list_any hides_card (dealt_slots placed (Some seat) 1) ≡ hidden → hole_said (if hidden then [] else spelling (dealt_slots placed (Some seat) 1)) ≡ Some (dealt_slots placed (Some seat) 1)
     by_known true is = ap Some (sym (both_hidden (dealt_slots placed (Some seat) 1) two is whole))
     by_known false is = rw (some_letters (dealt_slots placed (Some seat) 1) two) (known_again 2 (dealt_slots placed (Some seat) 1) two is)
 

@@ -6,12 +6,12 @@ use Rattle.std.proofs.lemmas.List.{append-nil, length-map}
 use Rattle.std.proofs.lemmas.List.FromFn.{length-range_with_len}
 use Rattle.card_set.proofs.Any.{nothing_kept}
 use Rattle.card_set.proofs.NumbersOfRange.{flat_none}
-use Rattle.card_set.specs.Known.{is_unknown, known_cards}
+use Rattle.card_set.specs.Known.{hides_card, known_among}
 use Rattle.card_set.specs.Spelling.{spelling}
 use Rattle.card_set.specs.declared.card.Slot.{Slot}
 use Rattle.play_event.specs.CanonScript as canon
 use Rattle.play_event.specs.CanonScript.{deal_said, deals_said, dealt_slots, is_dealt_to}
-use Rattle.play_event.specs.PlayedScript.{is_move}
+use Rattle.play_event.specs.PlayedScript.{is_move_event}
 use Rattle.play_event.specs.Past.{Act, BroughtIn, Called, Folded, Move, Raised, moves_on}
 use Rattle.play_event.specs.Said as said
 use Rattle.play_event.specs.Said.{Numbered, Said}
@@ -36,7 +36,7 @@ use Rattle.first_fault.specs.Numbers.{saturated}
 -- how many events are moves
 abbrev pub letters_in : List Said → ℕ
 letters_in [] = 0
-letters_in (event ∷ rest) = cond (is_move event) 1 0 + letters_in rest
+letters_in (event ∷ rest) = cond (is_move_event event) 1 0 + letters_in rest
 
 letters_append : (some more : List Said) → letters_in (some ++ more) ≡ letters_in some + letters_in more
 letters_append [] more = omega arith
@@ -45,7 +45,7 @@ letters_append (event ∷ some) more = omega (arith, letters_append some more)
 -- events after others have the numbers that follow
 numbered_append : (n : ℕ) (some more : List Said) → numbered_from n (some ++ more) ≡ numbered_from n some ++ numbered_from (n + letters_in some) more
 numbered_append n [] more = ap (λ k. numbered_from k more) (omega arith)
-numbered_append n (event ∷ some) more = by_move (is_move event) (numbered_append (n + 1) some more) (numbered_append n some more)
+numbered_append n (event ∷ some) more = by_move (is_move_event event) (numbered_append (n + 1) some more) (numbered_append n some more)
   where
     by_move : (moves : Bool) → numbered_from (n + 1) (some ++ more) ≡ numbered_from (n + 1) some ++ numbered_from (n + 1 + letters_in some) more → numbered_from n (some ++ more) ≡ numbered_from n some ++ numbered_from (n + letters_in some) more
         → (if moves then (saturated n, event) ∷ numbered_from (n + 1) (some ++ more) else (0, event) ∷ numbered_from n (some ++ more))
@@ -134,7 +134,7 @@ none_on no_limit setup street (move ∷ before) none = by_street (move.street ==
     by_street true none later = absurd (cc (none))
     by_street false none later = append-nil (moves_again no_limit setup street before) ∙ later none
 
-board_deal : (cards : List Slot) → 1 ≤ length cards → canon.board_said cards ≡ said.Board (known_cards cards) ∷ []
+board_deal : (cards : List Slot) → 1 ≤ length cards → canon.board_said cards ≡ said.Board (known_among cards) ∷ []
 board_deal [] some = absurd (omega (arith, some))
 board_deal (slot ∷ rest) some = refl
 
@@ -149,15 +149,15 @@ later_script no_limit setup placed moves streets = flat_map (street_again no_lim
 -- what is required of the further streets
 record AreLater (count : ℕ) (placed : List TracedPlace) (moves : List Move) : Type 0 where
   no_holes : (seat street : ℕ) → 1 ≤ seat → seat ≤ count → 2 ≤ street → street ≤ 4 → dealt_slots placed (Some seat) street ≡ []
-  known : (street : ℕ) → list_any is_unknown (dealt_slots placed None street) ≡ false
+  known : (street : ℕ) → list_any hides_card (dealt_slots placed None street) ≡ false
   dealt : (street : ℕ) → 2 ≤ street → street ≤ 4 → has_board placed street ≡ false → moves_on street moves ≡ []
 
 abbrev AreFurther : List ℕ → Type 0
 AreFurther [] = Unit {0}
 AreFurther (street ∷ streets) = ((2 ≤ street) × (street ≤ 4)) × AreFurther streets
 
-stroke_again : (at : ℕ) (so_far : Written) (cards : List Slot) (boards : List (List ℕ)) → so_far.boards ≡ spelling cards ∷ boards → length cards ≡ so_far.size → list_any is_unknown cards ≡ false
-    → step_after at so_far steps.NextRound ≡ Ok (record { events = so_far.events ++ (0, said.Board (known_cards cards)) ∷ []; number = so_far.number; size = 1; boards = boards })
+stroke_again : (at : ℕ) (so_far : Written) (cards : List Slot) (boards : List (List ℕ)) → so_far.boards ≡ spelling cards ∷ boards → length cards ≡ so_far.size → list_any hides_card cards ≡ false
+    → step_after at so_far steps.NextRound ≡ Ok (record { events = so_far.events ++ (0, said.Board (known_among cards)) ∷ []; number = so_far.number; size = 1; boards = boards })
 unfolding step_after next_round
 stroke_again at so_far cards boards is counted known = rw (is, board_again so_far.size cards counted known) refl
 
@@ -192,17 +192,17 @@ rounds_again no_limit setup placed moves at number size events (street ∷ stree
     by_dealt true is boards again =
         let counted = boards.0 refl in
         let begun : Written = record { events = events; number = number; size = size; boards = spelling cards ∷ boards_of placed streets } in
-        let next : Written = record { events = events ++ (0, said.Board (known_cards cards)) ∷ []; number = number; size = 1; boards = boards_of placed streets } in
+        let next : Written = record { events = events ++ (0, said.Board (known_among cards)) ∷ []; number = number; size = 1; boards = boards_of placed streets } in
         let one : steps_after at begun (steps.NextRound ∷ (steps_on no_limit setup street moves ++ after)) ≡ steps_after at (with_events next acts) after =
         ap (λ (found : Result Written LineFault). found >>= λ (w : Written). steps_after at w (steps_on no_limit setup street moves ++ after)) (stroke_again at begun cards (boards_of placed streets) refl counted (later.known street))
         ∙ steps_append at next (steps_on no_limit setup street moves) after
         ∙ ap (λ (found : Result Written LineFault). found >>= λ (w : Written). steps_after at w after) (street_moves no_limit setup street at moves next) in
-        let said_deals : deals_said setup placed street ≡ said.Board (known_cards cards) ∷ [] = deals ∙ board_deal cards (omega (arith, counted, some)) in
+        let said_deals : deals_said setup placed street ≡ said.Board (known_among cards) ∷ [] = deals ∙ board_deal cards (omega (arith, counted, some)) in
         ap (λ (found : Result Written LineFault). found >>= without_rest at) one
-        ∙ again (number + letters_in acts) 1 ((events ++ (0, said.Board (known_cards cards)) ∷ []) ++ numbered_from number acts) (omega arith) boards.1
-        ∙ ap Ok (append_assoc (events ++ (0, said.Board (known_cards cards)) ∷ []) (numbered_from number acts) (numbered_from (number + letters_in acts) rest)
-        ∙ append_assoc events ((0, said.Board (known_cards cards)) ∷ []) (numbered_from number acts ++ numbered_from (number + letters_in acts) rest)
-        ∙ ap (λ (l : List Numbered). events ++ (0, said.Board (known_cards cards)) ∷ l) (sym (numbered_append number acts rest))
+        ∙ again (number + letters_in acts) 1 ((events ++ (0, said.Board (known_among cards)) ∷ []) ++ numbered_from number acts) (omega arith) boards.1
+        ∙ ap Ok (append_assoc (events ++ (0, said.Board (known_among cards)) ∷ []) (numbered_from number acts) (numbered_from (number + letters_in acts) rest)
+        ∙ append_assoc events ((0, said.Board (known_among cards)) ∷ []) (numbered_from number acts ++ numbered_from (number + letters_in acts) rest)
+        ∙ ap (λ (l : List Numbered). events ++ (0, said.Board (known_among cards)) ∷ l) (sym (numbered_append number acts rest))
         ∙ ap (λ (l : List Said). events ++ numbered_from number ((l ++ acts) ++ rest)) (sym said_deals))
     by_dealt false is boards again =
         let none : deals_said setup placed street ≡ [] = deals ∙ ap canon.board_said (no_slots placed street is) in

@@ -14,7 +14,7 @@ use Rattle.acpc_game.specs.GameFile.{GameSaid, game_said, has_short_stack}
 use Rattle.acpc_game.specs.GameText.{game_text}
 use Rattle.acpc_game.specs.SaidGames.{IsGame}
 use Rattle.acpc_game.proofs.GameAgain.{game_again}
-use Rattle.acpc_format.specs.GameOf.{MakesGame, game_by_limit, game_of, game_with, is_sized_by_blind, no_limit_of}
+use Rattle.acpc_format.specs.GameOf.{MakesGame, game_by_limit, game_for, game_with, is_sized_by_blind, no_limit_of}
 use Rattle.acpc_format.proofs.Making.{makes_game}
 
 made_game : (no_limit : Bool) (setup : Setup) → MakesGame no_limit setup → IsGame (game_with no_limit setup)
@@ -49,6 +49,6 @@ by_limit setup game (Some no_limit) valid code is =
     by_tests false true true stacked fits one = absurd (cc (one))
     by_tests false true false stacked fits one = subst IsGame (same_Some (game_with no_limit setup) game (ap result_ok one)) (made_game no_limit setup (makes_game no_limit setup valid code stacked fits))
 
-pub file_again : (setup : Setup) (game : GameSaid) → IsValid setup → game_of setup ≡ Ok game → game_said (game_text game) ≡ Ok game
-unfolding game_of
+pub file_again : (setup : Setup) (game : GameSaid) → IsValid setup → game_for setup ≡ Ok game → game_said (game_text game) ≡ Ok game
+unfolding game_for
 file_again setup game valid is = game_again game (by_limit setup game (no_limit_of setup.code) valid refl is)

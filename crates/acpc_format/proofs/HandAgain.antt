@@ -8,14 +8,14 @@ use Rattle.canon_laws.proofs.SuitedMoves.{played_by}
 use Rattle.canon_laws.specs.Confluence.{HasTraceOf}
 use Rattle.canon_laws.specs.OtherRules.{SuitsRules}
 use Rattle.play_event.specs.CanonScript.{plain_moves, street_said}
-use Rattle.play_event.specs.PlayedScript.{IsPlayed, is_move}
+use Rattle.play_event.specs.PlayedScript.{IsPlayed, is_move_event}
 use Rattle.play_event.specs.TraceCore.{TraceCore, core_after, core_of}
 use Rattle.play_event.specs.Due.{is_unfinished, turn}
 use Rattle.play_event.specs.Laws.{AreLegal}
 use Rattle.play_event.specs.Past.{Move, Past, moves_of}
 use Rattle.play_event.specs.Said.{Numbered, Said}
 use Rattle.play_event.specs.Scripts.{past_at_end, past_of}
-use Rattle.play_event.specs.Streets.{is_stud, limit_of}
+use Rattle.play_event.specs.Streets.{is_stud_game, limit_of}
 use Rattle.play_event.specs.Trace.{TracedPlace, streets_of}
 use Rattle.play_event.specs.ValidSetup.{IsValid}
 use Rattle.play_event.specs.declared.code.Code.{Code}
@@ -63,7 +63,7 @@ use Rattle.hand_canon.proofs.SameTraces.{whole_same}
 
 -- hold'em has no bring-in, and in a limit game a fixed limit
 pub record HasNoUpCards (no_limit : Bool) (code : Code) : Type 0 where
-  pub stud : is_stud code ≡ false
+  pub stud : is_stud_game code ≡ false
   pub fixed : no_limit ≡ false → limit_of code ≡ limits.Fixed
 
 pub no_up_cards : (no_limit : Bool) → HasNoUpCards no_limit (code_of no_limit)
@@ -136,7 +136,7 @@ play_again game keep play sound none =
 -- what the numbered events say
 pub events_said : (n : ℕ) (script : List Said) → map (λ (event : Numbered). event.1) (numbered_from n script) ≡ script
 events_said n [] = refl
-events_said n (event ∷ rest) = by_move (is_move event) (events_said (n + 1) rest) (events_said n rest)
+events_said n (event ∷ rest) = by_move (is_move_event event) (events_said (n + 1) rest) (events_said n rest)
   where
     by_move : (b : Bool) → map (λ (e : Numbered). e.1) (numbered_from (n + 1) rest) ≡ rest → map (λ (e : Numbered). e.1) (numbered_from n rest) ≡ rest
         → map (λ (e : Numbered). e.1) (if b then ((saturated n, event) ∷ numbered_from (n + 1) rest) else ((0, event) ∷ numbered_from n rest)) ≡ event ∷ rest

@@ -8,7 +8,7 @@ use Rattle.canon_laws.proofs.TraceOrder.{finals_of, is_final}
 use Rattle.canon_laws.proofs.TracedSlots.{discarded_same}
 use Rattle.canon_laws.proofs.HeldSame.{held_script, slots_held}
 use Rattle.play_event.specs.CanonScript.{held_slots, is_dealt_to, is_discard_of}
-use Rattle.card_set.specs.Known.{is_unknown}
+use Rattle.card_set.specs.Known.{hides_card}
 use Rattle.chip_ledger.proofs.Flags.{flag-from_flagged}
 use Rattle.chip_ledger.proofs.SeatLists.{none_at}
 use Rattle.chip_ledger.specs.LiveRow.{flag_of, flagged}
@@ -40,17 +40,17 @@ none_out setup rules events place legal undrawn among = elim (cases_lt 0 place.d
 
 -- an unknown card that was dealt to a seat, and one that it holds
 abbrev is_hidden_deal : ℕ → TracedPlace → Bool
-is_hidden_deal seat place = is_dealt_to (Some seat) 1 place && is_unknown place.slot
+is_hidden_deal seat place = is_dealt_to (Some seat) 1 place && hides_card place.slot
 
 abbrev is_hidden_held : ℕ → TracedPlace → Bool
-is_hidden_held seat place = is_discard_of seat 0 place && is_unknown place.slot
+is_hidden_held seat place = is_discard_of seat 0 place && hides_card place.slot
 
 -- what is dealt is held if nothing is discarded
 deal_held : (seat : ℕ) (place : Place) → place.discarded ≡ 0 → is_hidden_deal seat (traced_place place) ≡ true → is_hidden_held seat (traced_place place) ≡ true
 deal_held seat place none is =
-    let both = and_parts (is_dealt_to (Some seat) 1 (traced_place place)) (is_unknown place.slot) is in
+    let both = and_parts (is_dealt_to (Some seat) 1 (traced_place place)) (hides_card place.slot) is in
     let dealt = and_parts (is_same_owner place.owner (Some seat)) (place.street == 1) both.0 in
-    and_from (is_discard_of seat 0 (traced_place place)) (is_unknown place.slot)
+    and_from (is_discard_of seat 0 (traced_place place)) (hides_card place.slot)
     (and_from (is_same_owner place.owner (Some seat)) (place.discarded == 0) dealt.0 (eq-eqb place.discarded 0 none)) both.1
 
 deals_held : (seat : ℕ) (finals : List Place) → ((place : Place) → IsAmong finals place → place.discarded ≡ 0) → list_any (is_hidden_deal seat) (map traced_place finals) ≡ true → list_any (is_hidden_held seat) (map traced_place finals) ≡ true
@@ -64,8 +64,8 @@ deals_held seat (place ∷ finals) none some = by_first (or_cases (is_hidden_dea
     by_first (inr there) later = or_right (is_hidden_held seat (traced_place place)) (list_any (is_hidden_held seat) (map traced_place finals)) (later there)
 
 -- unknown slots of places that pass a test
-unknown_of : (test : TracedPlace → Bool) (placed : List TracedPlace) → list_any is_unknown (map (λ (place : TracedPlace). place.slot) (filter test placed)) ≡ list_any (λ (place : TracedPlace). test place && is_unknown place.slot) placed
-unknown_of test placed = list_any-map is_unknown (λ (place : TracedPlace). place.slot) (filter test placed) ∙ list_any-filter (λ (place : TracedPlace). is_unknown place.slot) test placed
+unknown_of : (test : TracedPlace → Bool) (placed : List TracedPlace) → list_any hides_card (map (λ (place : TracedPlace). place.slot) (filter test placed)) ≡ list_any (λ (place : TracedPlace). test place && hides_card place.slot) placed
+unknown_of test placed = list_any-map hides_card (λ (place : TracedPlace). place.slot) (filter test placed) ∙ list_any-filter (λ (place : TracedPlace). hides_card place.slot) test placed
 
 -- a live seat with an unknown hole card holds it
 pub hidden_held : (setup : Setup) (rules : Rules) (events : List Said) (seat : ℕ) → AreLegal setup rules events → ((street : ℕ) → has_draw setup.code street ≡ false) → 1 ≤ seat → seat ≤ setup.stacks.seats
@@ -78,8 +78,8 @@ hidden_held setup rules events seat legal undrawn low high live hides =
     deals_held seat finals (λ place among. none_out setup rules events place legal undrawn (is_final setup placed (street_count setup.code) place among).among)
     (sym (unknown_of (is_dealt_to (Some seat) 1) (map traced_place finals)) ∙ hides) in
     let same : held_slots (map traced_place finals) seat ≡ slots_held seat placed = discarded_same finals seat 0 ∙ held_script setup rules events seat legal low high live in
-    sym (list_any-map is_unknown (λ (place : Place). place.slot) (filter (is_held_by seat) placed) ∙ list_any-filter (λ (place : Place). is_unknown place.slot) (is_held_by seat) placed)
-    ∙ sym (ap (list_any is_unknown) same)
+    sym (list_any-map hides_card (λ (place : Place). place.slot) (filter (is_held_by seat) placed) ∙ list_any-filter (λ (place : Place). hides_card place.slot) (is_held_by seat) placed)
+    ∙ sym (ap (list_any hides_card) same)
     ∙ unknown_of (is_discard_of seat 0) (map traced_place finals)
     ∙ held
 

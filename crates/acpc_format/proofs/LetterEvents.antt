@@ -3,13 +3,13 @@
 -- the unit.
 use Rattle.std.proofs.Common.{◌≡◌, ℕ, ◌≤◌, Bool, true, false, if◌then◌else◌, List, [], ◌∷◌, ◌++◌, Some, None, refl, sym, ap, subst, ◌∙◌, true≢false}
 use Rattle.play_event.specs.CanonScript.{act_named, move_named}
-use Rattle.play_event.specs.PlayedScript.{is_move}
+use Rattle.play_event.specs.PlayedScript.{is_move_event}
 use Rattle.play_event.proofs.SpellingLaws as spelling_laws
 use Rattle.play_event.specs.Amounts.{raise_target, unit_target}
 use Rattle.play_event.specs.Chips.{street_chips}
 use Rattle.play_event.specs.Due.{turn}
 use Rattle.play_event.specs.Laws.{AreLegal}
-use Rattle.play_event.specs.Past.{Act, BroughtIn, Called, Folded, Move, Past, Raised, is_bring_in, is_raise, moves_of}
+use Rattle.play_event.specs.Past.{Act, BroughtIn, Called, Folded, Move, Past, Raised, is_bringing_in, is_raising, moves_of}
 use Rattle.play_event.specs.Reasons.{why}
 use Rattle.play_event.specs.Said as said
 use Rattle.play_event.specs.Said.{Said}
@@ -31,15 +31,15 @@ use Rattle.acpc_format.proofs.RaiseTotals.{same_target}
 -- an event that is no move is unchanged, and a move has its letter, after the moves before it.
 pub data InLetters (no_limit : Bool) (setup : Setup) : List Said → List Move → List Said → Type 0 where
   nothing : InLetters no_limit setup [] [] []
-  stays : (event : Said) (events : List Said) (moves : List Move) (words : List Said) → is_move event ≡ false → InLetters no_limit setup events moves words → InLetters no_limit setup (event ∷ events) moves (event ∷ words)
+  stays : (event : Said) (events : List Said) (moves : List Move) (words : List Said) → is_move_event event ≡ false → InLetters no_limit setup events moves words → InLetters no_limit setup (event ∷ events) moves (event ∷ words)
   letter : (move : Move) (events : List Said) (moves : List Move) (words : List Said) → InLetters no_limit setup events moves words
       → InLetters no_limit setup (move_named move ∷ events) (move ∷ moves) (move_again no_limit move.act (hand_total setup move moves) ++ words)
 
 -- a move that a letter can say after the moves before it: no bring-in, and in a limit game each
 -- raise is by the unit
 pub record HasLetter (no_limit : Bool) (setup : Setup) (older : List Move) (move : Move) : Type 0 where
-  pub no_bring_in : is_bring_in move.act ≡ false
-  pub by_unit : no_limit ≡ false → is_raise move.act ≡ true → unit_target setup older move.street move.seat ≡ move.to
+  pub no_bring_in : is_bringing_in move.act ≡ false
+  pub by_unit : no_limit ≡ false → is_raising move.act ≡ true → unit_target setup older move.street move.seat ≡ move.to
 
 -- and so are all moves
 abbrev pub HaveLetters : Bool → Setup → List Move → Type 0
@@ -73,7 +73,7 @@ raise_same setup rules past seat target amount goes legal =
 
 -- the target of a raise, as its letter says it
 raise_goes : (no_limit : Bool) (setup : Setup) (rules : Rules) (events : List Said) (move : Move) → IsValid setup → AreLegal setup rules events
-    → why setup rules (past_of setup events) (said.Raise (Some move.seat) (spelled.To move.to)) ≡ None → HasLetter no_limit setup (moves_of (past_of setup events)) move → is_raise move.act ≡ true
+    → why setup rules (past_of setup events) (said.Raise (Some move.seat) (spelled.To move.to)) ≡ None → HasLetter no_limit setup (moves_of (past_of setup events)) move → is_raising move.act ≡ true
     → move.street ≡ (turn setup (past_of setup events)).0 → move.from ≡ street_chips setup (moves_of (past_of setup events)) (turn setup (past_of setup events)).0 move.seat
     → raise_target setup (moves_of (past_of setup events)) (turn setup (past_of setup events)).0 move.seat (if no_limit then spelled.HandTotal (hand_total setup move (moves_of (past_of setup events))) else spelled.Unit) ≡ move.to
 raise_goes true setup rules events move valid before legal has raises street from =
@@ -95,9 +95,9 @@ letter_more no_limit setup rules events words move valid before same has placed 
     let amount = if no_limit then spelled.HandTotal (hand_total setup move (moves_of (past_of setup events))) else spelled.Unit in
     one_more setup rules events words (said.Raise (Some move.seat) (spelled.To move.to)) (said.Raise None amount) same
     (raise_same setup rules (past_of setup events) move.seat move.to amount
-    (raise_goes no_limit setup rules events move valid before legal has (ap is_raise is) placed.street placed.from) legal)
+    (raise_goes no_limit setup rules events move valid before legal has (ap is_raising is) placed.street placed.from) legal)
 letter_more no_limit setup rules events words move valid before same has placed BroughtIn is legal =
-    absurd (true≢false (sym (ap is_bring_in is) ∙ has.no_bring_in))
+    absurd (true≢false (sym (ap is_bringing_in is) ∙ has.no_bring_in))
 
 -- events in letters are legal, and leave the past
 pub letters_same : (no_limit : Bool) (setup : Setup) (rules : Rules) (events : List Said) (moves : List Move) (words : List Said) → IsValid setup

@@ -3,7 +3,7 @@
 use Rattle.std.proofs.Common.{◌≡◌, ℕ, ◌+◌, Bool, true, false, ◌&&◌, not, eqb, nat_lt, nat_le, if◌then◌else◌, codes, List, [], ◌∷◌, ◌++◌, length, map, Option, Some, None, option_and_then, Result, Ok, Err, IfOk, refl, sym, ap, ◌∙◌}
 use Rattle.std.specs.List.{AllByRecursion, list_any}
 use Rattle.std.proofs.lemmas.Bool.{and_parts, eqb-true, not-true}
-use Rattle.card_set.specs.Known.{is_unknown}
+use Rattle.card_set.specs.Known.{hides_card}
 use Rattle.card_set.specs.Spelling.{slots_spelled}
 use Rattle.card_set.specs.declared.card.Slot.{Slot}
 use Rattle.card_set.specs.declared.card.Slot.TheVariants as slots
@@ -37,7 +37,7 @@ use Rattle.card_set.proofs.Results.{ok_anyway, ok_either, ok_where_found, ok_whe
 -- two cards, both known or both unknown
 pub record AreWhole (cards : List Slot) : Type 0 where
   pub two : length cards ≡ 2
-  pub whole : (list_any is_unknown cards && list_any (λ slot. not (is_unknown slot)) cards) ≡ false
+  pub whole : (list_any hides_card cards && list_any (λ slot. not (hides_card slot)) cards) ≡ false
 
 -- how a game writes raises: in no-limit as the seat's chips in the whole hand, in limit by the unit
 abbrev pub IsRaiseOf : Bool → Spelled → Type 0
@@ -121,17 +121,17 @@ betting_steps no_limit earlier at text =
 
 known_whole : (found : Option (List Slot)) (cards : List Slot) → option_and_then (only_known 2) found ≡ Some cards → AreWhole cards
 known_whole None cards is = absurd (cc)
-known_whole (Some all) cards is = by_test (eqb (length all) 2 && not (list_any is_unknown all)) refl is
+known_whole (Some all) cards is = by_test (eqb (length all) 2 && not (list_any hides_card all)) refl is
   where
-    by_test : (b : Bool) → (eqb (length all) 2 && not (list_any is_unknown all)) ≡ b → (if b then Some all else None) ≡ Some cards → AreWhole cards
+    by_test : (b : Bool) → (eqb (length all) 2 && not (list_any hides_card all)) ≡ b → (if b then Some all else None) ≡ Some cards → AreWhole cards
     by_test false other same = absurd (cc)
     by_test true known same =
-        let parts = and_parts (eqb (length all) 2) (not (list_any is_unknown all)) known in
+        let parts = and_parts (eqb (length all) 2) (not (list_any hides_card all)) known in
         let is_all : all ≡ cards = cc in
         record {
           two = sym (ap (λ (l : List Slot). length l) is_all) ∙ eqb-true (length all) 2 parts.0;
-          whole = sym (ap (λ (l : List Slot). list_any is_unknown l && list_any (λ slot. not (is_unknown slot)) l) is_all)
-              ∙ ap (λ b. b && list_any (λ slot. not (is_unknown slot)) all) (not-true (list_any is_unknown all) parts.1);
+          whole = sym (ap (λ (l : List Slot). list_any hides_card l && list_any (λ slot. not (hides_card slot)) l) is_all)
+              ∙ ap (λ b. b && list_any (λ slot. not (hides_card slot)) all) (not-true (list_any hides_card all) parts.1);
         }
 
 hole_whole : (text : List ℕ) (cards : List Slot) → hole_said text ≡ Some cards → AreWhole cards
@@ -144,7 +144,7 @@ hole_whole text cards is = by_length (eqb (length text) 0) is
         let is_all : (slots.Unknown ∷ slots.Unknown ∷ []) ≡ cards = cc in
         record {
           two = sym (ap (λ (l : List Slot). length l) is_all);
-          whole = sym (ap (λ (l : List Slot). list_any is_unknown l && list_any (λ slot. not (is_unknown slot)) l) is_all);
+          whole = sym (ap (λ (l : List Slot). list_any hides_card l && list_any (λ slot. not (hides_card slot)) l) is_all);
         }
 
 abbrev pub AreLog : Bool → List Numbered → Type 0

@@ -3,14 +3,14 @@
 use Rattle.std.proofs.Common.{◌≡◌, ℕ, zero, suc, ◌+◌, ◌≤◌, Bool, true, false, ◌&&◌, ◌||◌, ◌==◌, not, if◌then◌else◌, List, [], ◌∷◌, ◌++◌, map, length, Option, Some, None, inl, inr, refl, sym, ap, subst, ◌∙◌, arith, true≢false}
 use Rattle.std.specs.List.{AllByRecursion, list_any}
 use Rattle.std.proofs.lemmas.Bool.{and_from, eq-eqb, eqb-true, or_cases, or_left, or_right}
-use Rattle.card_set.specs.Known.{is_unknown, known_slots}
+use Rattle.card_set.specs.Known.{hides_card, known_slots}
 use Rattle.card_set.specs.declared.card.Slot.{Slot}
 use Rattle.play_event.specs.Amounts.{unit_target}
 use Rattle.play_event.specs.Dealing.{hole_cards_dealt}
 use Rattle.play_event.specs.Due.{turn}
 use Rattle.play_event.specs.Games.{hole_cards_on}
 use Rattle.play_event.specs.Laws.{AreLegal, IsAmong}
-use Rattle.play_event.specs.Past.{Move, Past, is_raise, moves_of}
+use Rattle.play_event.specs.Past.{Move, Past, is_raising, moves_of}
 use Rattle.play_event.specs.Places.{Place, after_fold, folded_place, gone_now, is_held_by, is_in_group, is_same_owner, places_dealt}
 use Rattle.play_event.specs.Said as said
 use Rattle.play_event.specs.Said.{Said}
@@ -48,7 +48,7 @@ none_mucked no_limit setup (said.Muck owner ∷ events) seat each = absurd each.
 -- each raise has the target of one by the unit
 abbrev pub AreByUnit : Setup → List Move → Type 0
 AreByUnit setup [] = Unit {0}
-AreByUnit setup (move ∷ older) = (is_raise move.act ≡ true → move.to ≡ unit_target setup older move.street move.seat) × AreByUnit setup older
+AreByUnit setup (move ∷ older) = (is_raising move.act ≡ true → move.to ≡ unit_target setup older move.street move.seat) × AreByUnit setup older
 
 raise_unit : (setup : Setup) (past : Past) (named : Option ℕ) (amount : Spelled) → IsLogEvent false (said.Raise named amount) → AreByUnit setup (moves_of past) → AreByUnit setup (moves_of (with_event setup (said.Raise named amount) past))
 unfolding with_event
@@ -92,10 +92,10 @@ any_among p q (first ∷ rest) goes some = elim (or_cases (p first) (list_any p 
 
 -- the card of a seat that is unknown, and one that is known
 abbrev pub is_hidden_of : ℕ → Place → Bool
-is_hidden_of seat place = is_same_owner place.owner (Some seat) && is_unknown place.slot
+is_hidden_of seat place = is_same_owner place.owner (Some seat) && hides_card place.slot
 
 abbrev pub is_open_of : ℕ → Place → Bool
-is_open_of seat place = is_same_owner place.owner (Some seat) && not (is_unknown place.slot)
+is_open_of seat place = is_same_owner place.owner (Some seat) && not (hides_card place.slot)
 
 -- no seat has both a known and an unknown card
 abbrev pub IsWholeSeat : List Place → ℕ → Type 0
@@ -156,13 +156,13 @@ fold_any test seat folder count (place ∷ placed) =
     one false = refl
 
 is_open : Slot → Bool
-is_open slot = not (is_unknown slot)
+is_open slot = not (hides_card slot)
 
 -- a deal to the board does not change the cards of a seat
 board_whole : (seat street : ℕ) (late : Bool) (index number : ℕ) (cards : List Slot) (placed : List Place) → IsWholeSeat placed seat → IsWholeSeat (placed ++ places_dealt None street late index number cards) seat
 unfolding is_open
 board_whole seat street late index number cards placed whole =
-    ap (λ b. b && list_any (is_open_of seat) (placed ++ places_dealt None street late index number cards)) (any_append (is_hidden_of seat) placed (places_dealt None street late index number cards) ∙ ap (λ b. list_any (is_hidden_of seat) placed || b) (dealt_any is_unknown None seat street late index number cards))
+    ap (λ b. b && list_any (is_open_of seat) (placed ++ places_dealt None street late index number cards)) (any_append (is_hidden_of seat) placed (places_dealt None street late index number cards) ∙ ap (λ b. list_any (is_hidden_of seat) placed || b) (dealt_any hides_card None seat street late index number cards))
     ∙ ap (λ b. (list_any (is_hidden_of seat) placed || false) && b) (any_append (is_open_of seat) placed (places_dealt None street late index number cards) ∙ ap (λ b. list_any (is_open_of seat) placed || b) (dealt_any is_open None seat street late index number cards))
     ∙ none_more (list_any (is_hidden_of seat) placed) (list_any (is_open_of seat) placed) whole
   where
@@ -172,16 +172,16 @@ board_whole seat street late index number cards placed whole =
     none_more false b is = refl
 
 -- a deal of cards that are all known or all unknown to a seat that had none
-hole_whole : (seat owner street : ℕ) (late : Bool) (index number : ℕ) (cards : List Slot) (placed : List Place) → (list_any is_unknown cards && list_any is_open cards) ≡ false
+hole_whole : (seat owner street : ℕ) (late : Bool) (index number : ℕ) (cards : List Slot) (placed : List Place) → (list_any hides_card cards && list_any is_open cards) ≡ false
     → (owner ≡ seat → (list_any (is_hidden_of seat) placed ≡ false) × (list_any (is_open_of seat) placed ≡ false)) → IsWholeSeat placed seat → IsWholeSeat (placed ++ places_dealt (Some owner) street late index number cards) seat
 unfolding is_open
 hole_whole seat owner street late index number cards placed two first whole =
-    ap (λ b. b && list_any (is_open_of seat) (placed ++ places_dealt (Some owner) street late index number cards)) (any_append (is_hidden_of seat) placed (places_dealt (Some owner) street late index number cards) ∙ ap (λ b. list_any (is_hidden_of seat) placed || b) (dealt_any is_unknown (Some owner) seat street late index number cards))
-    ∙ ap (λ b. (list_any (is_hidden_of seat) placed || ((owner == seat) && list_any is_unknown cards)) && b) (any_append (is_open_of seat) placed (places_dealt (Some owner) street late index number cards) ∙ ap (λ b. list_any (is_open_of seat) placed || b) (dealt_any is_open (Some owner) seat street late index number cards))
+    ap (λ b. b && list_any (is_open_of seat) (placed ++ places_dealt (Some owner) street late index number cards)) (any_append (is_hidden_of seat) placed (places_dealt (Some owner) street late index number cards) ∙ ap (λ b. list_any (is_hidden_of seat) placed || b) (dealt_any hides_card (Some owner) seat street late index number cards))
+    ∙ ap (λ b. (list_any (is_hidden_of seat) placed || ((owner == seat) && list_any hides_card cards)) && b) (any_append (is_open_of seat) placed (places_dealt (Some owner) street late index number cards) ∙ ap (λ b. list_any (is_open_of seat) placed || b) (dealt_any is_open (Some owner) seat street late index number cards))
     ∙ by_own (owner == seat) refl (list_any (is_hidden_of seat) placed) refl (list_any (is_open_of seat) placed) refl
   where
     by_own : (own : Bool) → (owner == seat) ≡ own → (a : Bool) → list_any (is_hidden_of seat) placed ≡ a → (b : Bool) → list_any (is_open_of seat) placed ≡ b
-        → ((a || (own && list_any is_unknown cards)) && (b || (own && list_any is_open cards))) ≡ false
+        → ((a || (own && list_any hides_card cards)) && (b || (own && list_any is_open cards))) ≡ false
     by_own false other a is_a b is_b = none_more a b (sym (ap (λ x. x && list_any (is_open_of seat) placed) is_a ∙ ap (λ x. a && x) is_b) ∙ whole)
       where
         none_more : (a b : Bool) → (a && b) ≡ false → ((a || false) && (b || false)) ≡ false
@@ -190,14 +190,14 @@ hole_whole seat owner street late index number cards placed two first whole =
         none_more false b is = refl
     by_own true own a is_a b is_b =
         let none = first (eqb-true owner seat own) in
-        ap (λ x. (x || list_any is_unknown cards) && (b || list_any is_open cards)) (sym is_a ∙ none.0)
-        ∙ ap (λ x. list_any is_unknown cards && (x || list_any is_open cards)) (sym is_b ∙ none.1)
+        ap (λ x. (x || list_any hides_card cards) && (b || list_any is_open cards)) (sym is_a ∙ none.0)
+        ∙ ap (λ x. list_any hides_card cards && (x || list_any is_open cards)) (sym is_b ∙ none.1)
         ∙ two
 
 fold_whole : (seat folder : ℕ) (placed : List Place) → IsWholeSeat placed seat → IsWholeSeat (after_fold folder placed) seat
 unfolding is_open
 fold_whole seat folder placed whole =
-    ap (λ b. b && list_any (is_open_of seat) (after_fold folder placed)) (fold_any is_unknown seat folder (length placed) placed)
+    ap (λ b. b && list_any (is_open_of seat) (after_fold folder placed)) (fold_any hides_card seat folder (length placed) placed)
     ∙ ap (λ b. list_any (is_hidden_of seat) placed && b) (fold_any is_open seat folder (length placed) placed)
     ∙ whole
 
@@ -251,7 +251,7 @@ all_whole no_limit setup rules (said.Hole owner cards ∷ events) seat is legal 
     hole_whole seat owner _ _ _ _ cards placed each.0.whole
     (λ same.
     let P : ℕ → Type 0 = λ n. (list_any (is_hidden_of n) placed ≡ false) × (list_any (is_open_of n) placed ≡ false) in
-    subst P same (no_slot_yet setup rules events owner cards is_unknown is legal each.0.two, no_slot_yet setup rules events owner cards is_open is legal each.0.two))
+    subst P same (no_slot_yet setup rules events owner cards hides_card is legal each.0.two, no_slot_yet setup rules events owner cards is_open is legal each.0.two))
     (all_whole no_limit setup rules events seat is legal.1 each.1)
 all_whole no_limit setup rules (said.Board cards ∷ events) seat is legal each =
     board_whole seat _ _ _ _ (known_slots cards) (places_of setup.code (past_of setup events)) (all_whole no_limit setup rules events seat is legal.1 each.1)

@@ -9,7 +9,7 @@ use Rattle.play_event.specs.declared.code.Code.{Code}
 use Rattle.play_event.specs.declared.code.Code.TheVariants as codes
 use Rattle.play_event.specs.declared.setup.Setup.{Setup}
 use Rattle.play_event.specs.Streets.{limit_of}
-use Rattle.play_event.specs.ValidSetup.{IsSizeWhere, IsValid, is_fixed}
+use Rattle.play_event.specs.ValidSetup.{IsSizeWhere, IsValid, is_fixed_limit}
 use Rattle.acpc_game.specs.GameFile.{has_short_stack, is_reversed}
 use Rattle.acpc_game.specs.Games.{are_chips, has_fitting_sizes}
 use Rattle.acpc_format.specs.GameOf.{MakesGame, is_sized_by_blind, no_limit_of}
@@ -35,9 +35,9 @@ not_reversed (a ∷ b ∷ c ∷ rest) (suc (suc (suc count))) full order = refl
 
 -- the sizes of a valid setup
 pub record HasSizes (code : Code) (small big least : ℕ) : Type 0 where
-  pub small_bet : IsSizeWhere (is_fixed (limit_of code)) small
-  pub big_bet : IsSizeWhere (is_fixed (limit_of code)) big
-  pub least_bet : IsSizeWhere (not (is_fixed (limit_of code))) least
+  pub small_bet : IsSizeWhere (is_fixed_limit (limit_of code)) small
+  pub big_bet : IsSizeWhere (is_fixed_limit (limit_of code)) big
+  pub least_bet : IsSizeWhere (not (is_fixed_limit (limit_of code))) least
 
 limited : (small big blind : ℕ) → (1 ≤ small) × (small ≤ MOST_CHIPS) → (1 ≤ big) × (big ≤ MOST_CHIPS) → (eqb blind 0 || nat_le small blind) ≡ true → has_fitting_sizes false blind small big ≡ true
 limited small big blind one other fits =

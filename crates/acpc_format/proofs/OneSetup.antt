@@ -11,7 +11,7 @@ use Rattle.card_set.proofs.NumbersOfRange.{any_none}
 use Rattle.play_event.specs.declared.code.Code.{Code}
 use Rattle.play_event.specs.declared.code.Code.TheVariants as codes
 use Rattle.play_event.specs.declared.setup.Setup.{Setup}
-use Rattle.play_event.specs.Streets.{is_stud}
+use Rattle.play_event.specs.Streets.{is_stud_game}
 use Rattle.play_event.specs.ValidSetup.{IsSizeWhere, IsValid, has_antes}
 use Rattle.hand_canon.specs.declared.trace.Play.{Play}
 use Rattle.hand_canon.specs.declared.writing.Keep.{Keep}
@@ -73,7 +73,7 @@ sizes_are false small big least blind game_blind game_small game_big has same bl
     let parts = and_parts (eqb small game_small) (eqb big game_big) same in
     (eqb-true small game_small parts.0, (eqb-true big game_big parts.1, has.least_bet))
 
-no_bring_in : (no_limit : Bool) (size : ℕ) → IsSizeWhere (is_stud (code_of no_limit)) size → size ≡ 0
+no_bring_in : (no_limit : Bool) (size : ℕ) → IsSizeWhere (is_stud_game (code_of no_limit)) size → size ≡ 0
 no_bring_in true size none = none
 no_bring_in false size none = none
 
@@ -100,7 +100,7 @@ setup_is game setup valid has =
       ante_seats = valid.same_antes ∙ has.seats;
       dead_antes = by_dead setup.dead_antes setup antes valid.dead_antes;
       blinds = blinds;
-      bring_in = no_bring_in game.no_limit setup.bring_in (subst (λ (c : Code). IsSizeWhere (is_stud c) setup.bring_in) code valid.bring_in);
+      bring_in = no_bring_in game.no_limit setup.bring_in (subst (λ (c : Code). IsSizeWhere (is_stud_game c) setup.bring_in) code valid.bring_in);
       small_bet = sizes.0;
       big_bet = sizes.1.0;
       min_bet = sizes.1.1;

@@ -1,7 +1,7 @@
 -- Plays that read back once they are written.
 use Rattle.std.proofs.Common.{◌≡◌, ℕ, ◌≤◌, true, false, List, [], length, Some, None}
 use Rattle.std.specs.List.{list_any}
-use Rattle.card_set.specs.Known.{is_unknown}
+use Rattle.card_set.specs.Known.{hides_card}
 use Rattle.chip_ledger.specs.declared.numbers.TheConstants.{MOST_CHIPS}
 use Rattle.play_event.specs.CanonScript.{dealt_slots, plain_moves}
 use Rattle.play_event.specs.declared.hand_limits.TheConstants.{MOST_MOVES}
@@ -34,7 +34,7 @@ pub record HasBoards (placed : List TracedPlace) : Type 0 where
   pub river : has_board placed 4 ≡ true → length (dealt_slots placed None 4) ≡ 1
   pub turn_follows : has_board placed 3 ≡ true → has_board placed 2 ≡ true
   pub river_follows : has_board placed 4 ≡ true → has_board placed 3 ≡ true
-  pub known : (street : ℕ) → list_any is_unknown (dealt_slots placed None street) ≡ false
+  pub known : (street : ℕ) → list_any hides_card (dealt_slots placed None street) ≡ false
 
 -- the moves are within the limit, each is on a round that was dealt, and no seat puts more than may
 -- be stated

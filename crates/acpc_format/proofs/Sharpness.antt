@@ -12,7 +12,7 @@ use Rattle.canon_laws.specs.OtherRules.{SuitsRules}
 use Rattle.canon_laws.proofs.SuitedRules.{suits_own}
 use Rattle.play_event.specs.CanonScript.{dealt_slots, plain_moves}
 use Rattle.play_event.specs.TraceCore.{TraceCore, core_after}
-use Rattle.card_set.specs.Known.{is_unknown}
+use Rattle.card_set.specs.Known.{hides_card}
 use Rattle.card_set.specs.declared.card.Slot.{Slot}
 use Rattle.chip_ledger.proofs.Flags.{flagged-from_flag}
 use Rattle.chip_ledger.specs.LiveRow.{flag_of, flagged}
@@ -24,7 +24,7 @@ use Rattle.card_set.proofs.Finding.{list_any-push}
 use Rattle.card_set.proofs.NumbersOfRange.{any_none, is_in}
 use Rattle.play_event.specs.Amounts.{unit_target}
 use Rattle.play_event.specs.Laws.{AreLegal}
-use Rattle.play_event.specs.Past.{Move, Past, is_raise, moves_of}
+use Rattle.play_event.specs.Past.{Move, Past, is_raising, moves_of}
 use Rattle.play_event.specs.Places.{Place, is_held_by, is_in_group, is_same_owner}
 use Rattle.play_event.specs.Played.{move_said}
 use Rattle.play_event.specs.Raising.{raises_on}
@@ -89,9 +89,9 @@ units_off setup [] fixed units = refl
 units_off setup (move ∷ older) fixed units =
     list_any-push is_off (traced_moves setup older) (traced_move setup move older)
     ∙ ap (λ b. b || is_off (traced_move setup move older)) (units_off setup older fixed units.1)
-    ∙ by_raise (is_raise move.act) refl
+    ∙ by_raise (is_raising move.act) refl
   where
-    by_raise : (b : Bool) → is_raise move.act ≡ b → (b && not (move.to == unit_target_in (limit_of setup.code) setup older move.street move.seat)) ≡ false
+    by_raise : (b : Bool) → is_raising move.act ≡ b → (b && not (move.to == unit_target_in (limit_of setup.code) setup older move.street move.seat)) ≡ false
     by_raise false is = refl
     by_raise true is =
         ap (λ (l : Limit). not (move.to == unit_target_in l setup older move.street move.seat)) fixed
@@ -124,9 +124,9 @@ part_none : (no_limit : Bool) (setup : Setup) (rules : Rules) (events : List Sai
     → is_part_known (traced_places setup (past_of setup events)) seat ≡ false
 part_none no_limit setup rules events seat is legal each low high =
     let placed = places_of setup.code (past_of setup events) in
-    let test : Slot → Bool = λ slot. not (is_unknown slot) in
+    let test : Slot → Bool = λ slot. not (hides_card slot) in
     not_both_still (has_unknown_hole_card (traced_places setup (past_of setup events)) seat) (list_any test (dealt_slots (traced_places setup (past_of setup events)) (Some seat) 1)) (list_any (is_hidden_of seat) placed) (list_any (is_open_of seat) placed)
-    (λ some. hole_own seat is_unknown placed (sym (hole_is setup events seat is_unknown is low high) ∙ some))
+    (λ some. hole_own seat hides_card placed (sym (hole_is setup events seat hides_card is low high) ∙ some))
     (λ some. hole_own seat test placed (sym (hole_is setup events seat test is low high) ∙ some))
     (all_whole no_limit setup rules events seat is legal each)
 
@@ -151,12 +151,12 @@ muck_none no_limit setup rules events row seat is legal each same low high = by_
     by_flag true flag =
         let mucked : is_mucked setup past seat ≡ true = sym (is_in (is_mucked setup past) 1 setup.stacks.seats seat low (omega (arith, high))) ∙ sym (ap (list_any (λ other. other == seat)) same) ∙ flagged-from_flag row seat low flag in
         let unknown : has_unknown_card setup past seat ≡ true = muck_unknown (nat_le 2 (live_count setup (moves_of past))) (is_live (moves_of past) seat) (has_mucked past seat) (has_unknown_card setup past seat) (none_mucked no_limit setup events seat each) mucked in
-        let hole = any_among (λ (place : Place). is_held_by seat place && is_unknown place.slot) (λ (place : Place). is_in_group (Some seat) 1 place && is_unknown place.slot) (places_of setup.code past)
+        let hole = any_among (λ (place : Place). is_held_by seat place && hides_card place.slot) (λ (place : Place). is_in_group (Some seat) 1 place && hides_card place.slot) (places_of setup.code past)
         (λ place among it.
-        let both = and_parts (is_held_by seat place) (is_unknown place.slot) it in
+        let both = and_parts (is_held_by seat place) (hides_card place.slot) it in
         let own = (and_parts (is_same_owner place.owner (Some seat)) (is_none place.gone_after) both.0).0 in
-        and_from (is_in_group (Some seat) 1 place) (is_unknown place.slot) (and_from (is_same_owner place.owner (Some seat)) (place.street == 1) own (eq-eqb place.street 1 (on_first setup rules events seat place is legal among own))) both.1) unknown in
-        not_true (has_unknown_hole_card (traced_places setup past) seat) (hole_is setup events seat is_unknown is low high ∙ hole)
+        and_from (is_in_group (Some seat) 1 place) (hides_card place.slot) (and_from (is_same_owner place.owner (Some seat)) (place.street == 1) own (eq-eqb place.street 1 (on_first setup rules events seat place is legal among own))) both.1) unknown in
+        not_true (has_unknown_hole_card (traced_places setup past) seat) (hole_is setup events seat hides_card is low high ∙ hole)
 
 -- ---- the other facts
 

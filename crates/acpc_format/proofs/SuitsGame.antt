@@ -12,13 +12,13 @@ use Rattle.card_set.proofs.Finding.{list_any-push}
 use Rattle.card_set.proofs.Reversed.{count_reversed, filter-reverse}
 use Rattle.play_event.specs.Amounts.{unit_target}
 use Rattle.play_event.specs.Laws.{AreLegal}
-use Rattle.play_event.specs.Past.{Move, is_raise, moves_of, moves_on}
+use Rattle.play_event.specs.Past.{Move, is_raising, moves_of, moves_on}
 use Rattle.play_event.specs.Places.{Place}
 use Rattle.play_event.specs.Played.{act_said, move_said}
 use Rattle.play_event.specs.Raising.{raises_on}
 use Rattle.play_event.specs.Said.{Said}
 use Rattle.play_event.specs.Scripts.{past_of}
-use Rattle.play_event.specs.Streets.{is_stud, limit_of}
+use Rattle.play_event.specs.Streets.{is_stud_game, limit_of}
 use Rattle.play_event.specs.Table.{places_of}
 use Rattle.play_event.specs.Trace.{TracedMove, traced_move, traced_moves, unit_target_in}
 use Rattle.play_event.specs.declared.limit.Limit.TheVariants as limits
@@ -41,36 +41,36 @@ use Rattle.play_laws.proofs.ResolvedMoves.{no_bring}
 -- ---- the rules
 
 -- the raises of a street
-count_row : (street : ℕ) (row : rows.Move) (moves : List Move) (count : ℕ) (here raises : Bool) → (row.street == street) ≡ here → is_raise (act_said row.act) ≡ raises → count_by (λ (m : Move). is_raise m.act) moves ≡ count
-    → count_by (λ (m : Move). is_raise m.act) (if here then (plain_move (move_said row) ∷ moves) else moves) ≡ cond (raises && here) 1 0 + count
+count_row : (street : ℕ) (row : rows.Move) (moves : List Move) (count : ℕ) (here raises : Bool) → (row.street == street) ≡ here → is_raising (act_said row.act) ≡ raises → count_by (λ (m : Move). is_raising m.act) moves ≡ count
+    → count_by (λ (m : Move). is_raising m.act) (if here then (plain_move (move_said row) ∷ moves) else moves) ≡ cond (raises && here) 1 0 + count
 count_row street row moves count true raises on is same =
-    count_by-cons (λ (m : Move). is_raise m.act) (plain_move (move_said row)) moves
-    ∙ ap {B = ℕ} (λ b. cond b 1 0 + count_by (λ (m : Move). is_raise m.act) moves) is
+    count_by-cons (λ (m : Move). is_raising m.act) (plain_move (move_said row)) moves
+    ∙ ap {B = ℕ} (λ b. cond b 1 0 + count_by (λ (m : Move). is_raising m.act) moves) is
     ∙ by_raise raises
   where
-    by_raise : (b : Bool) → cond b 1 0 + count_by (λ (m : Move). is_raise m.act) moves ≡ cond (b && true) 1 0 + count
+    by_raise : (b : Bool) → cond b 1 0 + count_by (λ (m : Move). is_raising m.act) moves ≡ cond (b && true) 1 0 + count
     by_raise true = omega (arith, same)
     by_raise false = omega (arith, same)
 count_row street row moves count false true on is same = omega (arith, same)
 count_row street row moves count false false on is same = omega (arith, same)
 
-count_rows : (street : ℕ) (moves : List rows.Move) → count_by (λ (m : Move). is_raise m.act) (moves_on street (map plain_move (map move_said moves))) ≡ count_by (is_raise_on street) moves
+count_rows : (street : ℕ) (moves : List rows.Move) → count_by (λ (m : Move). is_raising m.act) (moves_on street (map plain_move (map move_said moves))) ≡ count_by (is_raise_on street) moves
 count_rows street [] = refl
 count_rows street (row ∷ moves) =
-    count_row street row (moves_on street (map plain_move (map move_said moves))) (count_by (is_raise_on street) moves) (row.street == street) (is_raise (act_said row.act)) refl refl (count_rows street moves)
+    count_row street row (moves_on street (map plain_move (map move_said moves))) (count_by (is_raise_on street) moves) (row.street == street) (is_raising (act_said row.act)) refl refl (count_rows street moves)
     ∙ sym (count_by-cons (is_raise_on street) row moves)
 
 pub raises_said : (street : ℕ) (moves : List rows.Move) → raises_on (plain_moves (map move_said moves)) street ≡ count_by (is_raise_on street) moves
 raises_said street moves =
-    ap (count_by (λ (m : Move). is_raise m.act)) (filter-reverse (λ (m : Move). m.street == street) (map plain_move (map move_said moves)))
-    ∙ count_reversed (λ (m : Move). is_raise m.act) (moves_on street (map plain_move (map move_said moves)))
+    ap (count_by (λ (m : Move). is_raising m.act)) (filter-reverse (λ (m : Move). m.street == street) (map plain_move (map move_said moves)))
+    ∙ count_reversed (λ (m : Move). is_raising m.act) (moves_on street (map plain_move (map move_said moves)))
     ∙ count_rows street moves
 
 -- no move is of street 0
 none_before : (moves : List Move) → AreSince moves → raises_on moves 0 ≡ 0
 none_before [] since = refl
 none_before (move ∷ rest) since =
-    ap {B = ℕ} (λ b. count_by (λ (m : Move). is_raise m.act) (if b then (move ∷ moves_on 0 rest) else moves_on 0 rest)) (ne_eqb move.street 0 (λ is. omega (arith, is, since.0)))
+    ap {B = ℕ} (λ b. count_by (λ (m : Move). is_raising m.act) (if b then (move ∷ moves_on 0 rest) else moves_on 0 rest)) (ne_eqb move.street 0 (λ is. omega (arith, is, since.0)))
     ∙ none_before rest since.1
 
 within : (caps : List ℕ) (moves : List rows.Move) → AreSince (plain_moves (map move_said moves)) → is_above_caps (Some caps) moves ≡ false → (street : ℕ) → street ≤ 4 → raises_on (plain_moves (map move_said moves)) street ≤ slice_index caps (street - 1)
@@ -116,7 +116,7 @@ suits_game game trace has since =
 -- ---- the letters
 
 -- a raise by the unit
-by_unit : (setup : Setup) (older : List Move) (move : Move) → limit_of setup.code ≡ limits.Fixed → (is_raise move.act && not (move.to == unit_target_in (limit_of setup.code) setup older move.street move.seat)) ≡ false → is_raise move.act ≡ true
+by_unit : (setup : Setup) (older : List Move) (move : Move) → limit_of setup.code ≡ limits.Fixed → (is_raising move.act && not (move.to == unit_target_in (limit_of setup.code) setup older move.street move.seat)) ≡ false → is_raising move.act ≡ true
     → unit_target setup older move.street move.seat ≡ move.to
 by_unit setup older move fixed none raises =
     let off : not (move.to == unit_target setup older move.street move.seat) ≡ false =
@@ -127,9 +127,9 @@ by_unit setup older move fixed none raises =
 
 -- a traced raise that is not by the unit
 abbrev pub is_off : TracedMove → Bool
-is_off move = is_raise move.act && not (move.to == move.unit_to)
+is_off move = is_raising move.act && not (move.to == move.unit_to)
 
-letters_fit : (no_limit : Bool) (setup : Setup) (rules : Rules) (placed : List Place) (moves : List Move) → is_stud setup.code ≡ false → (no_limit ≡ false → limit_of setup.code ≡ limits.Fixed)
+letters_fit : (no_limit : Bool) (setup : Setup) (rules : Rules) (placed : List Place) (moves : List Move) → is_stud_game setup.code ≡ false → (no_limit ≡ false → limit_of setup.code ≡ limits.Fixed)
     → (no_limit ≡ false → list_any is_off (traced_moves setup moves) ≡ false) → MovesLaw setup rules placed moves → HaveLetters no_limit setup moves
 letters_fit no_limit setup rules placed [] stud fixed units law = tt
 letters_fit no_limit setup rules placed (move ∷ older) stud fixed units law =
@@ -148,7 +148,7 @@ units_kept false moves none limit = list_any-map is_off move_said moves ∙ none
 
 -- so the moves of a play have letters
 pub play_letters : (game : Game) (trace : Trace) (setup : Setup) (rules : Rules) (events : List Said) → HasPlayOf game trace → map move_said trace.moves ≡ traced_moves setup (moves_of (past_of setup events)) → AreLegal setup rules events
-    → is_stud setup.code ≡ false → (game.no_limit ≡ false → limit_of setup.code ≡ limits.Fixed) → HaveLetters game.no_limit setup (moves_of (past_of setup events))
+    → is_stud_game setup.code ≡ false → (game.no_limit ≡ false → limit_of setup.code ≡ limits.Fixed) → HaveLetters game.no_limit setup (moves_of (past_of setup events))
 play_letters game trace setup rules events has same legal stud fixed =
     letters_fit game.no_limit setup rules (places_of setup.code (past_of setup events)) (moves_of (past_of setup events)) stud fixed
     (λ limit. sym (ap (list_any is_off) same) ∙ units_kept game.no_limit trace.moves has.units limit)

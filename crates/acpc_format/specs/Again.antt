@@ -10,7 +10,7 @@ use Rattle.play_event.specs.Said.{Numbered, Said}
 use Rattle.play_event.specs.Seats.{all_seats}
 use Rattle.play_event.specs.Trace.{TracedPlace}
 use Rattle.play_event.specs.CanonScript.{deals_said, plain_moves}
-use Rattle.play_event.specs.PlayedScript.{is_move}
+use Rattle.play_event.specs.PlayedScript.{is_move_event}
 use Rattle.hand_canon.specs.Agreement.{value_of}
 use Rattle.hand_canon.specs.TraceRows.{core_said}
 use Rattle.hand_canon.specs.declared.notes.Notes.{Notes}
@@ -61,7 +61,7 @@ script_again no_limit trace =
 abbrev pub numbered_from : ℕ → List Said → List Numbered
 numbered_from n [] = []
 numbered_from n (event ∷ rest) =
-    if is_move event
+    if is_move_event event
     then (saturated n, event) ∷ numbered_from (n + 1) rest
     else (0, event) ∷ numbered_from n rest
 

@@ -2,7 +2,7 @@
 -- further round.
 use Rattle.std.specs.Prelude.{ℕ, if◌then◌else◌, List, [], ◌++◌, Some, None}
 use Rattle.std.specs.List.{flat_map, list_any}
-use Rattle.card_set.specs.Known.{is_unknown}
+use Rattle.card_set.specs.Known.{hides_card}
 use Rattle.card_set.specs.Spelling.{spelling}
 use Rattle.play_event.specs.Trace.{TracedPlace}
 use Rattle.play_event.specs.CanonScript.{dealt_slots}
@@ -12,7 +12,7 @@ use Rattle.acpc_format.specs.Seats.{for_seats}
 -- the hole cards of a seat, or nothing if one of them is unknown
 abbrev pub hole_text : List TracedPlace → ℕ → List ℕ
 hole_text placed seat =
-    if list_any is_unknown (dealt_slots placed (Some seat) 1)
+    if list_any hides_card (dealt_slots placed (Some seat) 1)
     then []
     else spelling (dealt_slots placed (Some seat) 1)
 

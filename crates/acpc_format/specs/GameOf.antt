@@ -46,8 +46,8 @@ game_by_limit setup no_limit =
     else Ok (game_with no_limit setup)
 
 -- the game that a hand with this setup fits, or the first fact that no game has
-unfoldable pub game_of : Setup → Result GameSaid Unspelled
-game_of setup = option_map_or (game_by_limit setup) (no_limit_of setup.code) (Err facts.Variant)
+unfoldable pub game_for : Setup → Result GameSaid Unspelled
+game_for setup = option_map_or (game_by_limit setup) (no_limit_of setup.code) (Err facts.Variant)
 
 -- the stacks, blinds and bet sizes of a setup are those of a game
 pub record MakesGame (no_limit : Bool) (setup : Setup) : Type 0 where

@@ -1,7 +1,7 @@
 -- Which facts of the play of a hand the logs of a game can write.
 use Rattle.std.specs.Prelude.{ℕ, ◌-◌, ◌==◌, ◌&&◌, Bool, false, not, nat_lt, List, [], ◌∷◌, count_by, slice_index, Option, Some, None}
 use Rattle.std.specs.List.{list_any}
-use Rattle.card_set.specs.Known.{is_unknown}
+use Rattle.card_set.specs.Known.{hides_card}
 use Rattle.chip_ledger.specs.Greatest.{greatest}
 use Rattle.chip_ledger.specs.LiveRow.{flag_of}
 use Rattle.chip_ledger.specs.PotRow.{shares_in}
@@ -10,7 +10,7 @@ use Rattle.chip_ledger.specs.declared.live_row.LiveRow.{LiveRow}
 use Rattle.chip_ledger.specs.declared.seat_row.SeatRow.{SeatRow}
 use Rattle.play_event.specs.CanonScript.{dealt_slots}
 use Rattle.canon_laws.specs.OtherRules as other_rules
-use Rattle.play_event.specs.Past.{is_raise}
+use Rattle.play_event.specs.Past.{is_raising}
 use Rattle.play_event.specs.Played.{act_said, move_said}
 use Rattle.play_event.specs.Trace.{TracedPlace}
 use Rattle.play_event.specs.declared.played.Move.{Move}
@@ -27,7 +27,7 @@ is_free_fold move = other_rules.is_free_fold (move_said move)
 
 -- a move is a raise on a street
 abbrev pub is_raise_on : ℕ → Move → Bool
-is_raise_on street move = is_raise (act_said move.act) && move.street == street
+is_raise_on street move = is_raising (act_said move.act) && move.street == street
 
 -- a street has more raises than the cap allows
 abbrev pub is_above_cap : List ℕ → List Move → ℕ → Bool
@@ -41,16 +41,16 @@ is_above_caps (Some caps) moves = list_any (is_above_cap caps moves) (1 ∷ 2 �
 
 -- a raise is not by the unit of the limit game
 abbrev pub is_off_unit : Move → Bool
-is_off_unit move = is_raise (act_said move.act) && not (move.to == move.unit_to)
+is_off_unit move = is_raising (act_said move.act) && not (move.to == move.unit_to)
 
 -- a hole card of a seat is unknown
 abbrev pub has_unknown_hole_card : List TracedPlace → ℕ → Bool
-has_unknown_hole_card placed seat = list_any is_unknown (dealt_slots placed (Some seat) 1)
+has_unknown_hole_card placed seat = list_any hides_card (dealt_slots placed (Some seat) 1)
 
 -- a hole card of a seat is known
 abbrev pub has_known_card : List TracedPlace → ℕ → Bool
 has_known_card placed seat =
-    list_any (λ slot. not (is_unknown slot)) (dealt_slots placed (Some seat) 1)
+    list_any (λ slot. not (hides_card slot)) (dealt_slots placed (Some seat) 1)
 
 -- one hole card of a seat is known and another is not
 abbrev pub is_part_known : List TracedPlace → ℕ → Bool

@@ -7,7 +7,7 @@ ghost use Rattle.hand_canon.specs.TraceRows.{place_said};
 ghost use Rattle.acpc_format.specs.Betting.{betting_text, letter, letter_on, letters_on, round_text};
 ghost use Rattle.acpc_format.specs.Puts.{HaveFewChips};
 
-use crate::cards::has_board;
+use crate::cards::is_board_dealt;
 use crate::puts::{add, posted_chips};
 use card_set::{Memory, TryExtend, displayed};
 use play_event::{Act, Move, Place, Setup};
@@ -62,7 +62,7 @@ impl SpelledMoves<'_> {
             ++ round_text self.now.no_limit self.now.setup.now (map place_said places.now)
             (plain_moves (map move_said self.now.moves.now)) street) }
     {
-        if !has_board(places, street) {
+        if !is_board_dealt(places, street) {
             return Ok(());
         }
         out.try_extend_from_slice(b"/")?;

@@ -1,7 +1,7 @@
 //! Writes the cards of a line: those of each seat, and those of the board for each further round.
-ghost use Rattle.std.specs.Prelude.{◌≡◌, ◌≤◌, ◌&&◌, ◌++◌, [], Some, None, if◌then◌else◌, map, not, OnOk};
+ghost use Rattle.std.specs.Prelude.{◌≡◌, ◌&&◌, ◌++◌, [], Some, None, if◌then◌else◌, map, not, OnOk};
 ghost use Rattle.std.specs.List.{list_any};
-ghost use Rattle.card_set.specs.Known.{is_unknown};
+ghost use Rattle.card_set.specs.Known.{hides_card};
 ghost use Rattle.card_set.specs.Spelling.{slot_spelling, spelling};
 ghost use Rattle.play_event.specs.CanonScript.{dealt_slots, is_dealt_to};
 ghost use Rattle.play_event.specs.Places as dealt;
@@ -12,12 +12,12 @@ ghost use Rattle.acpc_format.specs.Rounds as rounds;
 ghost use Rattle.acpc_format.specs.Seats.{bar_before};
 
 use card_set::{Memory, TryExtend, slot_text};
-use chip_ledger::Seat;
+use chip_ledger::{PlayerCount, Seat};
 use play_event::Place;
 
 /// Whether a card that an owner was dealt on a street is known.
 pub fn has_known(places: &[Place], owner: Option<Seat>, street: u8) -> bool
-    ensures { result ≡ list_any (λ slot. not (is_unknown slot))
+    ensures { result ≡ list_any (λ slot. not (hides_card slot))
         (dealt_slots (map place_said places.now) (seat_named owner) street) }
 {
     for place in places {
@@ -28,14 +28,13 @@ pub fn has_known(places: &[Place], owner: Option<Seat>, street: u8) -> bool
     false
 }
 
-/// The cards of a hand with `seats` seats.
+/// The cards of a hand with this number of players.
 #[tactic(auto, unfolding(crate::specs::Cards::cards_text, crate::specs::Cards::holes_text))]
-pub fn push_cards(out: &mut Vec<u8>, places: &[Place], seats: u8) -> Result<(), Memory>
-    requires { seats ≤ 10 }
+pub fn push_cards(out: &mut Vec<u8>, places: &[Place], players: PlayerCount) -> Result<(), Memory>
     ensures { OnOk result (out.new.items
-        ≡ out.old.items ++ cards_text (map place_said places.now) seats) }
+        ≡ out.old.items ++ cards_text (map place_said places.now) players.number) }
 {
-    for index in 0..seats {
+    for index in 0..players.number {
         let seat = Seat { number: index + 1 };
         push_bar(out, seat)?;
         push_hole(out, places, seat)?;
@@ -66,7 +65,7 @@ fn push_hole(out: &mut Vec<u8>, places: &[Place], seat: Seat) -> Result<(), Memo
 
 /// Whether a card that an owner was dealt on a street is unknown.
 pub fn has_unknown(places: &[Place], owner: Option<Seat>, street: u8) -> bool
-    ensures { result ≡ list_any is_unknown
+    ensures { result ≡ list_any hides_card
         (dealt_slots (map place_said places.now) (seat_named owner) street) }
 {
     for place in places {
@@ -94,7 +93,7 @@ fn push_board(out: &mut Vec<u8>, places: &[Place], street: u8) -> Result<(), Mem
     ensures { OnOk result (out.new.items
         ≡ out.old.items ++ board_text (map place_said places.now) street) }
 {
-    if !has_board(places, street) {
+    if !is_board_dealt(places, street) {
         return Ok(());
     }
     out.try_extend_from_slice(b"/")?;
@@ -102,7 +101,7 @@ fn push_board(out: &mut Vec<u8>, places: &[Place], street: u8) -> Result<(), Mem
 }
 
 /// Whether cards of the board were dealt on a street.
-pub fn has_board(places: &[Place], street: u8) -> bool
+pub fn is_board_dealt(places: &[Place], street: u8) -> bool
     ensures { result ≡ rounds.has_board (map place_said places.now) street }
 {
     for place in places {

@@ -10,7 +10,7 @@ ghost use Rattle.chip_ledger.specs.Greatest as amounts;
 ghost use Rattle.chip_ledger.specs.SeatRow.{amounts_in};
 
 use crate::amounts::{are_same, has_some};
-use acpc_game::{Game, greatest, has_short_stack};
+use acpc_game::{Game, greatest, has_unplayable_stack};
 use hand_canon::{Play, Unspelled};
 use play_event::{Code, Setup};
 
@@ -68,20 +68,20 @@ fn has_game_sizes(game: &Game, setup: &Setup) -> bool
 /// # Errors
 ///
 /// The first fact of the hand that no game has.
-#[tactic(auto, unfolding(crate::specs::GameOf::game_of))]
+#[tactic(auto, unfolding(crate::specs::GameOf::game_for))]
 pub fn game_of(play: &Play) -> Result<Game, Unspelled>
     requires { IsValid play.now.trace.setup }
-    ensures game { IfOk result (λ game. games.game_of play.now.trace.setup ≡ Ok (game_in game)) }
-    ensures refused { IfErr result (λ fact. games.game_of play.now.trace.setup ≡ Err fact) }
+    ensures game { IfOk result (λ game. games.game_for play.now.trace.setup ≡ Ok (game_in game)) }
+    ensures refused { IfErr result (λ fact. games.game_for play.now.trace.setup ≡ Err fact) }
 {
     let setup = &play.trace.setup;
     let Some(no_limit) = limit_of(setup.code) else {
         return Err(Unspelled::Variant);
     };
-    if has_short_stack(setup.stacks.as_slice(), setup.blinds.as_slice()) {
+    if has_unplayable_stack(setup.stacks.as_slice(), setup.blinds.as_slice()) {
         return Err(Unspelled::Stacks);
     }
-    if !is_sized_by_blind(no_limit, setup) {
+    if !fits_greatest_blind(no_limit, setup) {
         return Err(Unspelled::BetSizes);
     }
     if has_some(setup.antes.as_slice()) {
@@ -102,7 +102,7 @@ fn limit_of(code: Code) -> Option<bool>
 }
 
 // Whether the bet sizes fit the greatest blind.
-fn is_sized_by_blind(no_limit: bool, setup: &Setup) -> bool
+fn fits_greatest_blind(no_limit: bool, setup: &Setup) -> bool
     ensures { result ≡ games.is_sized_by_blind no_limit setup.now }
 {
     let blind = greatest_blind(setup);

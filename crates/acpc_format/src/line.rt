@@ -68,7 +68,7 @@ fn push_play(alloc: Global, out: &mut Vec<u8>, no_limit: bool, trace: &Trace) ->
         trace.places.as_slice(),
     )?;
     out.try_extend_from_slice(b":")?;
-    push_cards(out, trace.places.as_slice(), trace.setup.stacks.seats)
+    push_cards(out, trace.places.as_slice(), trace.setup.stacks.players())
 }
 
 // The values and the names.
@@ -80,5 +80,5 @@ fn push_end(alloc: Global, out: &mut Vec<u8>, trace: &Trace, notes: &Notes) -> R
 {
     push_values(alloc, out, &trace.setup.stacks, &trace.finish)?;
     out.try_extend_from_slice(b":")?;
-    push_names(alloc, out, notes, trace.setup.stacks.seats)
+    push_names(alloc, out, notes, trace.setup.stacks.players())
 }

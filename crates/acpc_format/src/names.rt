@@ -1,5 +1,5 @@
 //! Writes the names of a line: those of the players, and the number of the hand.
-ghost use Rattle.std.specs.Prelude.{◌≡◌, ◌≤◌, ◌-◌, ◌++◌, None, IfSome, IsUtf8, OnOk, slice_index_or};
+ghost use Rattle.std.specs.Prelude.{◌≡◌, ◌-◌, ◌++◌, None, IfSome, IsUtf8, OnOk, slice_index_or};
 ghost use Rattle.acpc_format.specs.Names.{hand_text, name_or_default, names_text};
 ghost use Rattle.acpc_format.specs.Names as names;
 ghost use Rattle.acpc_format.specs.Texts.{AreTexts};
@@ -7,19 +7,24 @@ ghost use Rattle.chip_ledger.specs.SeatsSaid.{default_name};
 
 use crate::cards::push_bar;
 use card_set::{Memory, TryExtend, displayed};
-use chip_ledger::Seat;
-use first_fault::{Text, are_digits};
+use chip_ledger::{PlayerCount, Seat};
+use first_fault::{Text, is_all_digits};
 use hand_canon::Notes;
 use std::alloc::Global;
 
-/// The names of `count` players, separated by bars.
+/// The names of the players, separated by bars.
 #[tactic(auto, unfolding(crate::specs::Names::names_text))]
-pub fn push_names(alloc: Global, out: &mut Vec<u8>, notes: &Notes, seats: u8) -> Result<(), Memory>
-    requires { seats ≤ 10 }
-    ensures written { OnOk result (out.new.items ≡ out.old.items ++ names_text notes.now seats) }
-    ensures texts { OnOk result (AreTexts seats notes.now) }
+pub fn push_names(
+    alloc: Global,
+    out: &mut Vec<u8>,
+    notes: &Notes,
+    players: PlayerCount,
+) -> Result<(), Memory>
+    ensures written { OnOk result (out.new.items
+        ≡ out.old.items ++ names_text notes.now players.number) }
+    ensures texts { OnOk result (AreTexts players.number notes.now) }
 {
-    for index in 0..seats {
+    for index in 0..players.number {
         let seat = Seat { number: index + 1 };
         push_bar(out, seat)?;
         push_name(alloc, out, seat, name_of(notes, seat))?;
@@ -42,7 +47,7 @@ fn push_name(
         return push_default(alloc, out, seat);
     };
     let name = name.as_str().as_bytes();
-    if is_spelled_name(name) {
+    if can_write_name(name) {
         return Ok(out.try_extend_from_slice(name)?);
     }
     push_default(alloc, out, seat)
@@ -59,11 +64,11 @@ fn push_default(alloc: Global, out: &mut Vec<u8>, seat: Seat) -> Result<(), Memo
 
 /// Whether a line can write a name: it has no colon, no bar and no end of a line.
 #[tactic(auto, unfolding(crate::specs::Names::is_spelled_name))]
-pub fn is_spelled_name(name: &[u8]) -> bool
+pub fn can_write_name(name: &[u8]) -> bool
     ensures { result ≡ names.is_spelled_name name.now }
 {
     for sign in name {
-        if !may_stand(*sign) {
+        if !is_allowed_in_name(*sign) {
             return false;
         }
     }
@@ -71,7 +76,7 @@ pub fn is_spelled_name(name: &[u8]) -> bool
 }
 
 // Whether a sign is allowed in a name.
-fn may_stand(sign: u8) -> bool
+fn is_allowed_in_name(sign: u8) -> bool
     ensures { result ≡ names.may_stand sign }
 {
     sign != b':' && sign != b'|' && sign != b'\r' && sign != b'\n'
@@ -99,7 +104,7 @@ pub fn push_hand(
         return push_index(alloc, out, index);
     };
     let name = name.as_str().as_bytes();
-    if is_spelled_hand(name) {
+    if can_write_hand_number(name) {
         return Ok(out.try_extend_from_slice(name)?);
     }
     push_index(alloc, out, index)
@@ -117,10 +122,10 @@ fn push_index(alloc: Global, out: &mut Vec<u8>, index: usize) -> Result<(), Memo
 /// Whether a line can write a hand number: a decimal number without leading zeros, of at most 18
 /// digits.
 #[tactic(auto, unfolding(crate::specs::Names::is_spelled_hand))]
-pub fn is_spelled_hand(text: &[u8]) -> bool
+pub fn can_write_hand_number(text: &[u8]) -> bool
     ensures { result ≡ names.is_spelled_hand text.now }
 {
-    if !are_digits(text) || text.first() == Some(&b'0') && text.len() != 1 {
+    if !is_all_digits(text) || text.first() == Some(&b'0') && text.len() != 1 {
         return false;
     }
     text.len() <= 18

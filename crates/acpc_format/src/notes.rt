@@ -8,7 +8,7 @@ ghost use Rattle.acpc_format.specs.NoteFacts as note_facts;
 ghost use Rattle.acpc_format.specs.Spelled.{unspelled_note};
 ghost use Rattle.first_fault.specs.Conditions.{first_where};
 
-use crate::names::{is_spelled_hand, is_spelled_name};
+use crate::names::{can_write_hand_number, can_write_name};
 use first_fault::Text;
 use hand_canon::{Keep, NoteName, Notes, Unspelled};
 
@@ -47,7 +47,7 @@ fn find_text(notes: &Notes) -> Option<Unspelled>
     if notes.seat_count.is_some() {
         return Some(Unspelled::Note(NoteName::SeatCount));
     }
-    if is_unspelled_hand(&notes.hand) {
+    if is_unwritable_hand_number(&notes.hand) {
         return Some(Unspelled::Note(NoteName::Hand));
     }
     find_plain(notes, NoteName::texts().as_slice())
@@ -71,7 +71,7 @@ fn has_unspelled_name(names: &[Option<Text>]) -> bool
     ensures { result ≡ list_any note_facts.is_unspelled_name names.now }
 {
     for name in names {
-        if is_unspelled_name(name) {
+        if is_unwritable_name(name) {
             return true;
         }
     }
@@ -79,21 +79,21 @@ fn has_unspelled_name(names: &[Option<Text>]) -> bool
 }
 
 // Whether there is a name that a line cannot write.
-fn is_unspelled_name(name: &Option<Text>) -> bool
+fn is_unwritable_name(name: &Option<Text>) -> bool
     ensures { result ≡ note_facts.is_unspelled_name name.now }
 {
     match name {
-        Some(name) => !is_spelled_name(name.as_str().as_bytes()),
+        Some(name) => !can_write_name(name.as_str().as_bytes()),
         None => false,
     }
 }
 
 // Whether there is a hand number that a line cannot write.
-fn is_unspelled_hand(text: &Option<Text>) -> bool
+fn is_unwritable_hand_number(text: &Option<Text>) -> bool
     ensures { result ≡ note_facts.is_unspelled_hand text.now }
 {
     match text {
-        Some(text) => !is_spelled_hand(text.as_str().as_bytes()),
+        Some(text) => !can_write_hand_number(text.as_str().as_bytes()),
         None => false,
     }
 }

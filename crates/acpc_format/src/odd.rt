@@ -12,7 +12,7 @@ pub fn has_odd_chip(shares: &ShareRow) -> bool
     ensures { result ≡ list_any play_facts.is_uneven (shares_in shares.now) }
 {
     for share in &shares.shares[..shares.count as usize] {
-        if is_uneven(share) {
+        if has_unequal_shares(share) {
             return true;
         }
     }
@@ -20,7 +20,7 @@ pub fn has_odd_chip(shares: &ShareRow) -> bool
 }
 
 // Whether one winner of a pot gets less than another.
-fn is_uneven(share: &SeatRow) -> bool
+fn has_unequal_shares(share: &SeatRow) -> bool
     ensures { result ≡ play_facts.is_uneven share.now }
 {
     let amounts = share.as_slice();

@@ -22,7 +22,7 @@ pub fn find_other_play(game: &Game, trace: &Trace) -> Option<Unspelled>
     if has_free_fold(moves) {
         return Some(Unspelled::FreeFold);
     }
-    if is_above_caps(game.caps, moves) {
+    if exceeds_any_cap(game.caps, moves) {
         return Some(Unspelled::TooManyRaises);
     }
     if !game.no_limit && has_off_unit(moves) {
@@ -45,7 +45,7 @@ fn has_free_fold(moves: &[Move]) -> bool
     ensures { result ≡ list_any play_facts.is_free_fold moves.now }
 {
     for played in moves {
-        if is_free_fold(*played) {
+        if is_fold_owing_nothing(*played) {
             return true;
         }
     }
@@ -53,27 +53,27 @@ fn has_free_fold(moves: &[Move]) -> bool
 }
 
 // Whether the move is a fold of a seat that owes nothing.
-fn is_free_fold(played: Move) -> bool
+fn is_fold_owing_nothing(played: Move) -> bool
     ensures { result ≡ play_facts.is_free_fold played }
 {
     played.act.is_fold() && played.price <= played.from
 }
 
 // Whether one of the four streets has more raises than its cap, if there are caps.
-fn is_above_caps(caps: Option<[u32; 4]>, moves: &[Move]) -> bool
+fn exceeds_any_cap(caps: Option<[u32; 4]>, moves: &[Move]) -> bool
     ensures { result ≡ play_facts.is_above_caps caps moves.now }
 {
     let Some(caps) = caps else {
         return false;
     };
-    is_above_cap(caps, moves, 1)
-        || is_above_cap(caps, moves, 2)
-        || is_above_cap(caps, moves, 3)
-        || is_above_cap(caps, moves, 4)
+    exceeds_cap(caps, moves, 1)
+        || exceeds_cap(caps, moves, 2)
+        || exceeds_cap(caps, moves, 3)
+        || exceeds_cap(caps, moves, 4)
 }
 
 // Whether a street has more raises than its cap allows.
-fn is_above_cap(caps: [u32; 4], moves: &[Move], street: u8) -> bool
+fn exceeds_cap(caps: [u32; 4], moves: &[Move], street: u8) -> bool
     requires low { 1 ≤ street }
     requires high { street ≤ 4 }
     ensures { result ≡ play_facts.is_above_cap caps moves.now street }
@@ -88,7 +88,7 @@ fn count_raises(moves: &[Move], street: u8) -> usize
 {
     let mut count = 0;
     for played in moves {
-        if is_raise_on(*played, street) {
+        if raises_on_street(*played, street) {
             count += 1;
         }
     }
@@ -96,7 +96,7 @@ fn count_raises(moves: &[Move], street: u8) -> usize
 }
 
 // Whether the move is a raise on a street.
-fn is_raise_on(played: Move, street: u8) -> bool
+fn raises_on_street(played: Move, street: u8) -> bool
     ensures { result ≡ play_facts.is_raise_on street played }
 {
     played.act.is_raise() && played.street == street
@@ -107,7 +107,7 @@ fn has_off_unit(moves: &[Move]) -> bool
     ensures { result ≡ list_any play_facts.is_off_unit moves.now }
 {
     for played in moves {
-        if is_off_unit(*played) {
+        if has_other_raise_size(*played) {
             return true;
         }
     }
@@ -115,7 +115,7 @@ fn has_off_unit(moves: &[Move]) -> bool
 }
 
 // Whether the move is a raise that is not by the unit of the limit game.
-fn is_off_unit(played: Move) -> bool
+fn has_other_raise_size(played: Move) -> bool
     ensures { result ≡ play_facts.is_off_unit played }
 {
     played.act.is_raise() && played.to != played.unit_to
@@ -127,7 +127,7 @@ fn has_part_known(trace: &Trace) -> bool
         (seats_of trace.now.setup.stacks.seats) }
 {
     for index in 0..trace.setup.stacks.seats {
-        if is_part_known(trace.places.as_slice(), Seat { number: index + 1 }) {
+        if has_known_and_unknown(trace.places.as_slice(), Seat { number: index + 1 }) {
             return true;
         }
     }
@@ -135,7 +135,7 @@ fn has_part_known(trace: &Trace) -> bool
 }
 
 // Whether one hole card of the seat is known and another is not.
-fn is_part_known(places: &[Place], seat: Seat) -> bool
+fn has_known_and_unknown(places: &[Place], seat: Seat) -> bool
     ensures { result ≡ play_facts.is_part_known (map place_said places.now) seat.number }
 {
     has_unknown(places, Some(seat), 1) && has_known(places, Some(seat), 1)
@@ -149,7 +149,7 @@ fn has_open_muck(trace: &Trace) -> bool
 {
     for index in 0..trace.setup.stacks.seats {
         let seat = Seat { number: index + 1 };
-        if is_open_muck(trace.places.as_slice(), &trace.mucked, seat) {
+        if has_mucked_known_cards(trace.places.as_slice(), &trace.mucked, seat) {
             return true;
         }
     }
@@ -157,7 +157,7 @@ fn has_open_muck(trace: &Trace) -> bool
 }
 
 // Whether the seat mucked although its hole cards are known.
-fn is_open_muck(places: &[Place], mucked: &LiveRow, seat: Seat) -> bool
+fn has_mucked_known_cards(places: &[Place], mucked: &LiveRow, seat: Seat) -> bool
     ensures { result ≡ play_facts.is_open_muck (map place_said places.now) mucked.now seat.number }
 {
     mucked.flags[seat.number as usize - 1] && !has_unknown(places, Some(seat), 1)

@@ -5,7 +5,7 @@ use Rattle.std.proofs.lemmas.Bool.{and_parts, le-leb, leb-true}
 use Rattle.std.proofs.lemmas.Bool.Decides.{nat_tests}
 use Rattle.acpc_game.specs.declared.key.GameKey.{GameKey}
 use Rattle.acpc_game.specs.declared.key.GameKey.TheVariants as keys
-use Rattle.acpc_game.specs.Keys.{most_of, key_order, has_count}
+use Rattle.acpc_game.specs.Keys.{most_of, key_order, takes_count}
 use Rattle.acpc_game.specs.Games.{are_chips}
 use Rattle.chip_ledger.specs.declared.numbers.TheConstants.{MOST_CHIPS}
 
@@ -69,5 +69,5 @@ caps_key keys.NumBoardCards is = absurd (cc (is))
 pub caps_small : (key : GameKey) (numbers : List ℕ) → eqb (key_order key) 8 ≡ true → list_all (λ number. nat_le number (most_of key)) numbers ≡ true → list_all (λ number. nat_le number 4294967295) numbers ≡ true
 caps_small key numbers is all = subst (λ (k : GameKey). list_all (λ number. nat_le number (most_of k)) numbers ≡ true) (caps_key key is) all
 
-pub caps_four : (key : GameKey) (count : ℕ) → eqb (key_order key) 8 ≡ true → has_count key count ≡ true → count ≡ 4
-caps_four key count is has = let four : eqb count 4 ≡ true = subst (λ (k : GameKey). has_count k count ≡ true) (caps_key key is) has in grind (arith, nat_tests, four)
+pub caps_four : (key : GameKey) (count : ℕ) → eqb (key_order key) 8 ≡ true → takes_count key count ≡ true → count ≡ 4
+caps_four key count is has = let four : eqb count 4 ≡ true = subst (λ (k : GameKey). takes_count k count ≡ true) (caps_key key is) has in grind (arith, nat_tests, four)

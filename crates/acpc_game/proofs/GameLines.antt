@@ -13,7 +13,7 @@ use Rattle.acpc_game.specs.Forms.{form_of, is_passed_over, is_unused, key_before
 use Rattle.acpc_game.specs.GameFile.{GameSaid, first_player, last_seat_with}
 use Rattle.acpc_game.specs.Games.{are_chips, has_fitting_sizes}
 use Rattle.acpc_game.specs.GameText.{caps_text, chips_text, counts_text, ended, first_text, game_text, key_line, kind_text, seat_lines, sizes_text, turns_text}
-use Rattle.acpc_game.specs.Keys.{card_key_named, chip_key_named, has_count, is_word, most_of}
+use Rattle.acpc_game.specs.Keys.{card_key_named, chip_key_named, is_word, most_of, takes_count}
 use Rattle.acpc_game.specs.SaidGames.{IsGame, are_caps}
 use Rattle.acpc_game.proofs.NumbersAgain.{are_within}
 use Rattle.card_set.proofs.Tests.{both_true}
@@ -182,7 +182,7 @@ all_both no_limit [] b one other = other
 all_both no_limit (line ∷ a) b one other = (one.0, all_both no_limit a b one.1 other)
 
 -- a line of a key and some numbers
-some_reads : (no_limit : Bool) (word : List ℕ) (key : GameKey) (numbers : List ℕ) → 0 < length numbers → Names word key → is_unused no_limit key ≡ false → has_count key (length numbers) ≡ true
+some_reads : (no_limit : Bool) (word : List ℕ) (key : GameKey) (numbers : List ℕ) → 0 < length numbers → Names word key → is_unused no_limit key ≡ false → takes_count key (length numbers) ≡ true
     → are_within (most_of key) numbers ≡ true → Reads no_limit (number_line word key numbers)
 some_reads no_limit word key [] some names used count few = absurd (omega (arith, some))
 some_reads no_limit word key (n ∷ numbers) some names used count few = number_reads no_limit word key n numbers names used count few

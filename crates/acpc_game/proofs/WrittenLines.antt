@@ -14,7 +14,7 @@ use Rattle.acpc_game.specs.declared.key.GameKey.{GameKey}
 use Rattle.acpc_game.specs.Forms.{form_of, form_with, is_passed_over, is_unused, key_and_numbers, key_before, numbers_behind}
 use Rattle.acpc_game.specs.GameEntries.{EntrySaid, entries_after, entries_after_line, entries_with, may_come_next}
 use Rattle.acpc_game.specs.GameText.{ended}
-use Rattle.acpc_game.specs.Keys.{has_count, most_of}
+use Rattle.acpc_game.specs.Keys.{most_of, takes_count}
 use Rattle.acpc_game.proofs.Bounds.{most_few}
 use Rattle.acpc_game.proofs.NumbersAgain.{all_digits, are_within, ends_in_digit, numbers_again, spaced_pass, words_again}
 
@@ -73,16 +73,16 @@ two_parts word numbers one other =
     ∙ slice_split_at (λ b. eqb b 61) (word ++ 32 ∷ []) 61 (spaced numbers) (λ k d within. never_at is_undivided 61 (word ++ 32 ∷ []) refl one k d within) refl
     ∙ ap (λ (parts : List (List ℕ)). (word ++ 32 ∷ []) ∷ parts) (slice_split_none (λ b. eqb b 61) (spaced numbers) (λ k d within. never_at is_undivided 61 (spaced numbers) refl other k d within))
 
-numbers_form : (no_limit : Bool) (key : GameKey) (n : ℕ) (numbers : List ℕ) → is_unused no_limit key ≡ false → has_count key (length (n ∷ numbers)) ≡ true → are_within (most_of key) (n ∷ numbers) ≡ true
+numbers_form : (no_limit : Bool) (key : GameKey) (n : ℕ) (numbers : List ℕ) → is_unused no_limit key ≡ false → takes_count key (length (n ∷ numbers)) ≡ true → are_within (most_of key) (n ∷ numbers) ≡ true
     → numbers_behind no_limit key (spaced (n ∷ numbers)) ≡ Some (key, map decimal (n ∷ numbers))
 unfolding numbers_behind form_with
 numbers_form no_limit key n numbers used count few =
     let most = most_of key in
-    let as_many : has_count key (length (map decimal (n ∷ numbers))) ≡ true = ap (has_count key) (length-map (n ∷ numbers) decimal) ∙ count in
+    let as_many : takes_count key (length (map decimal (n ∷ numbers))) ≡ true = ap (takes_count key) (length-map (n ∷ numbers) decimal) ∙ count in
     rw (ends_in_digit most (most_small key) n numbers few, words_again most (most_small key) n numbers few, all_digits most (most_small key) (n ∷ numbers) few, used, as_many) refl
 
 -- a line of a key and numbers reads as these
-pub number_reads : (no_limit : Bool) (word : List ℕ) (key : GameKey) (n : ℕ) (numbers : List ℕ) → Names word key → is_unused no_limit key ≡ false → has_count key (length (n ∷ numbers)) ≡ true
+pub number_reads : (no_limit : Bool) (word : List ℕ) (key : GameKey) (n : ℕ) (numbers : List ℕ) → Names word key → is_unused no_limit key ≡ false → takes_count key (length (n ∷ numbers)) ≡ true
     → are_within (most_of key) (n ∷ numbers) ≡ true → Reads no_limit (number_line word key (n ∷ numbers))
 number_reads no_limit word key n numbers names used count few =
     let behind = codes " =" ++ spaced (n ∷ numbers) in

@@ -17,35 +17,23 @@ fault_name (faults.AmountLimit line byte) = codes "AmountLimit"
 fault_name (faults.TooMany quantity line byte) = codes "TooMany"
 fault_name (faults.Memory memory) = codes "Memory"
 
--- the line of a file that has a fault, from 1; 0 if memory ran out
-abbrev pub line_of : AcpcFault → ℕ
-line_of (faults.LineShape line byte) = line
-line_of (faults.BadBetting line byte) = line
-line_of (faults.BadCards line byte) = line
-line_of (faults.BadValue line byte) = line
-line_of (faults.SeatCount line byte) = line
-line_of (faults.GameShape line byte) = line
-line_of (faults.UnsupportedGame line byte) = line
-line_of (faults.AmountLimit line byte) = line
-line_of (faults.TooMany quantity line byte) = line
-line_of (faults.Memory memory) = 0
-
--- the byte of this line at which the fault is; 0 if memory ran out
-abbrev pub byte_of : AcpcFault → ℕ
-byte_of (faults.LineShape line byte) = byte
-byte_of (faults.BadBetting line byte) = byte
-byte_of (faults.BadCards line byte) = byte
-byte_of (faults.BadValue line byte) = byte
-byte_of (faults.SeatCount line byte) = byte
-byte_of (faults.GameShape line byte) = byte
-byte_of (faults.UnsupportedGame line byte) = byte
-byte_of (faults.AmountLimit line byte) = byte
-byte_of (faults.TooMany quantity line byte) = byte
-byte_of (faults.Memory memory) = 0
+-- the line of a file that has a fault, and the byte of this line at which it is, each from 1; 0 and
+-- 0 if memory ran out
+abbrev pub location_of : AcpcFault → ℕ × ℕ
+location_of (faults.LineShape line byte) = (line, byte)
+location_of (faults.BadBetting line byte) = (line, byte)
+location_of (faults.BadCards line byte) = (line, byte)
+location_of (faults.BadValue line byte) = (line, byte)
+location_of (faults.SeatCount line byte) = (line, byte)
+location_of (faults.GameShape line byte) = (line, byte)
+location_of (faults.UnsupportedGame line byte) = (line, byte)
+location_of (faults.AmountLimit line byte) = (line, byte)
+location_of (faults.TooMany quantity line byte) = (line, byte)
+location_of (faults.Memory memory) = (0, 0)
 
 -- the text of a fault: its line, its byte and its name
 abbrev pub fault_text : AcpcFault → List ℕ
 fault_text fault =
     codes "line "
-    ++ (decimal (line_of fault)
-    ++ (codes ", byte " ++ (decimal (byte_of fault) ++ (codes ": " ++ fault_name fault))))
+    ++ (decimal (location_of fault).0
+    ++ (codes ", byte " ++ (decimal (location_of fault).1 ++ (codes ": " ++ fault_name fault))))

@@ -5,7 +5,7 @@ use Rattle.first_fault.specs.Digits.{are_digits}
 use Rattle.acpc_game.specs.Parts.{parts_of}
 use Rattle.acpc_game.specs.declared.key.GameKey.{GameKey}
 use Rattle.acpc_game.specs.declared.key.GameKey.TheVariants as keys
-use Rattle.acpc_game.specs.Keys.{is_word, key_named, has_count}
+use Rattle.acpc_game.specs.Keys.{is_word, key_named, takes_count}
 use Rattle.first_fault.specs.Words.{is_space, words_of}
 
 -- a line is ignored: it is empty or begins with #
@@ -36,7 +36,7 @@ unfoldable pub form_with : Bool → GameKey → List (List ℕ) → Option Form
 form_with no_limit key words =
     if is_unused no_limit key
     then (if nat_lt 0 (length words) then Some (keys.UnusedSizes, []) else None)
-    else if has_count key (length words) then Some (key, words)
+    else if takes_count key (length words) then Some (key, words)
     else None
 
 -- the numbers after the =; spaces may precede them, but not follow them

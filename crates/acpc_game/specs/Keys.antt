@@ -65,20 +65,20 @@ most_of keys.MaxRaises = 4294967295
 most_of _ = MOST_CHIPS
 
 -- a key takes `count` numbers; stacks and blinds are compared with the players later
-abbrev pub has_count : GameKey → ℕ → Bool
-has_count keys.Begin count = count == 0
-has_count keys.End count = count == 0
-has_count keys.Limit count = count == 0
-has_count keys.NoLimit count = count == 0
-has_count keys.UnusedSizes count = count == 0
-has_count keys.Stack count = nat_lt 0 count
-has_count keys.Blind count = nat_lt 0 count
-has_count keys.RaiseSize count = count == 4
-has_count keys.FirstPlayer count = count == 4
-has_count keys.MaxRaises count = count == 4
-has_count keys.NumBoardCards count = count == 4
-has_count keys.NumPlayers count = count == 1
-has_count keys.NumRounds count = count == 1
-has_count keys.NumSuits count = count == 1
-has_count keys.NumRanks count = count == 1
-has_count keys.NumHoleCards count = count == 1
+abbrev pub takes_count : GameKey → ℕ → Bool
+takes_count keys.Begin count = count == 0
+takes_count keys.End count = count == 0
+takes_count keys.Limit count = count == 0
+takes_count keys.NoLimit count = count == 0
+takes_count keys.UnusedSizes count = count == 0
+takes_count keys.Stack count = nat_lt 0 count
+takes_count keys.Blind count = nat_lt 0 count
+takes_count keys.RaiseSize count = count == 4
+takes_count keys.FirstPlayer count = count == 4
+takes_count keys.MaxRaises count = count == 4
+takes_count keys.NumBoardCards count = count == 4
+takes_count keys.NumPlayers count = count == 1
+takes_count keys.NumRounds count = count == 1
+takes_count keys.NumSuits count = count == 1
+takes_count keys.NumRanks count = count == 1
+takes_count keys.NumHoleCards count = count == 1

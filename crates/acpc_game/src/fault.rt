@@ -97,39 +97,22 @@ impl AcpcFault {
         }
     }
 
-    /// The line of the file that has the fault, from 1; 0 if memory ran out.
-    pub fn line(&self) -> u32
-        ensures { result ≡ texts.line_of self.now }
+    /// The line of the file that has the fault and the byte of this line that shows it, each from
+    /// 1; 0 and 0 if memory ran out.
+    pub fn location(&self) -> (u32, u32)
+        ensures { result ≡ texts.location_of self.now }
     {
         match *self {
-            AcpcFault::LineShape { line, .. }
-            | AcpcFault::BadBetting { line, .. }
-            | AcpcFault::BadCards { line, .. }
-            | AcpcFault::BadValue { line, .. }
-            | AcpcFault::SeatCount { line, .. }
-            | AcpcFault::GameShape { line, .. }
-            | AcpcFault::UnsupportedGame { line, .. }
-            | AcpcFault::AmountLimit { line, .. }
-            | AcpcFault::TooMany { line, .. } => line,
-            AcpcFault::Memory(_) => 0,
-        }
-    }
-
-    /// The byte of this line that shows the fault, from 1; 0 if memory ran out.
-    pub fn byte(&self) -> u32
-        ensures { result ≡ texts.byte_of self.now }
-    {
-        match *self {
-            AcpcFault::LineShape { byte, .. }
-            | AcpcFault::BadBetting { byte, .. }
-            | AcpcFault::BadCards { byte, .. }
-            | AcpcFault::BadValue { byte, .. }
-            | AcpcFault::SeatCount { byte, .. }
-            | AcpcFault::GameShape { byte, .. }
-            | AcpcFault::UnsupportedGame { byte, .. }
-            | AcpcFault::AmountLimit { byte, .. }
-            | AcpcFault::TooMany { byte, .. } => byte,
-            AcpcFault::Memory(_) => 0,
+            AcpcFault::LineShape { line, byte }
+            | AcpcFault::BadBetting { line, byte }
+            | AcpcFault::BadCards { line, byte }
+            | AcpcFault::BadValue { line, byte }
+            | AcpcFault::SeatCount { line, byte }
+            | AcpcFault::GameShape { line, byte }
+            | AcpcFault::UnsupportedGame { line, byte }
+            | AcpcFault::AmountLimit { line, byte }
+            | AcpcFault::TooMany { line, byte, .. } => (line, byte),
+            AcpcFault::Memory(_) => (0, 0),
         }
     }
 }
@@ -149,15 +132,14 @@ impl fmt::Display for AcpcFault {
     ghost output = { λ fault. Some (texts.fault_text fault) };
 
     fn fmt<W: fmt::Write>(&self, f: &mut fmt::Formatter<W>) -> fmt::Result {
-        let line = self.line();
-        let byte = self.byte();
+        let (line, byte) = self.location();
         let name = self.name();
         write!(f, "line {line}, byte {byte}: {name}")
     }
 }
 
 /// The fault of a line with this number.
-pub fn fault_in_line(line: u64, fault: LineFault) -> AcpcFault
+pub fn to_file_fault(line: u64, fault: LineFault) -> AcpcFault
     ensures { result ≡ faults.fault_in_line line fault }
 {
     let byte = saturating_u32(fault.byte);

@@ -5,17 +5,17 @@ ghost use Rattle.acpc_game.specs.Parts.{parts_of};
 ghost use Rattle.first_fault.specs.Words.{is_space, words_of};
 ghost use Rattle.first_fault.specs.Digits as digits;
 ghost use Rattle.acpc_game.specs.Entries.{form_said};
-ghost use Rattle.acpc_game.specs.Keys.{has_count};
+ghost use Rattle.acpc_game.specs.Keys.{takes_count};
 ghost use Rattle.acpc_game.specs.Forms.{form_of, key_and_numbers, numbers_behind};
 ghost use Rattle.acpc_game.specs.Forms as forms;
 
-use crate::key::{GameKey, is_word, key_named};
+use crate::key::{GameKey, equals_ignoring_case, parse_key};
 use crate::key_line::KeyLine;
 use crate::parts::cut_at;
-use first_fault::{are_digits, next_word};
+use first_fault::{is_all_digits, next_word};
 
 /// Whether a line of a game file is ignored: it is empty or begins with `#`.
-pub fn is_passed_over(line: &[u8]) -> bool
+pub fn is_ignored(line: &[u8]) -> bool
     ensures { result ≡ forms.is_passed_over line.now }
 {
     line.is_empty() || line[0] == b'#'
@@ -31,9 +31,9 @@ pub fn read_form(no_limit: bool, line: &[u8]) -> Option<KeyLine<'_>>
         Some(alone(GameKey::Begin))
     } else if line == b"END GAMEDEF".as_slice() {
         Some(alone(GameKey::End))
-    } else if is_word("limit", line) {
+    } else if equals_ignoring_case("limit", line) {
         Some(alone(GameKey::Limit))
-    } else if is_word("nolimit", line) {
+    } else if equals_ignoring_case("nolimit", line) {
         Some(alone(GameKey::NoLimit))
     } else {
         read_numbered(no_limit, line)
@@ -42,7 +42,7 @@ pub fn read_form(no_limit: bool, line: &[u8]) -> Option<KeyLine<'_>>
 
 // A key that has no numbers.
 fn alone<'a>(key: GameKey) -> KeyLine<'a>
-    requires { has_count key 0 ≡ true }
+    requires { takes_count key 0 ≡ true }
     ensures { form_said result ≡ (key, []) }
 {
     KeyLine { key, numbers: &[] }
@@ -70,7 +70,7 @@ fn read_behind<'a>(no_limit: bool, front: &[u8], rest: &'a [u8]) -> Option<KeyLi
     match more {
         Some(_) => None,
         None => {
-            let key = key_before(front)?;
+            let key = parse_front(front)?;
             numbers_of(no_limit, key, behind)
         }
     }
@@ -78,7 +78,7 @@ fn read_behind<'a>(no_limit: bool, front: &[u8], rest: &'a [u8]) -> Option<KeyLi
 
 // The key before the `=`.
 #[tactic(auto, unfolding(crate::specs::Forms::key_before))]
-fn key_before(front: &[u8]) -> Option<GameKey>
+fn parse_front(front: &[u8]) -> Option<GameKey>
     ensures { result ≡ forms.key_before front.now }
 {
     if begins_with_space(front) {
@@ -86,7 +86,7 @@ fn key_before(front: &[u8]) -> Option<GameKey>
     }
     let (word, rest) = next_word(front)?;
     match next_word(rest) {
-        None => key_named(word),
+        None => parse_key(word),
         Some(_) => None,
     }
 }
@@ -108,19 +108,19 @@ fn numbers_of(no_limit: bool, key: GameKey, behind: &[u8]) -> Option<KeyLine<'_>
         return None;
     }
     let count = count_numbers(behind)?;
-    form_with(no_limit, key, count, behind)
+    make_key_line(no_limit, key, count, behind)
 }
 
 // A key with `count` numbers, if the key takes this number of them; raise sizes of a no-limit game
 // are ignored.
 #[tactic(auto, unfolding(crate::specs::Forms::form_with))]
-fn form_with(no_limit: bool, key: GameKey, count: usize, behind: &[u8]) -> Option<KeyLine<'_>>
+fn make_key_line(no_limit: bool, key: GameKey, count: usize, behind: &[u8]) -> Option<KeyLine<'_>>
     requires digits { list_all digits.are_digits (words_of behind.now) ≡ true }
     requires count { count ≡ length (words_of behind.now) }
     ensures { option_map form_said result
         ≡ forms.form_with no_limit key (words_of behind.now) }
 {
-    if is_unused(no_limit, key) {
+    if has_ignored_sizes(no_limit, key) {
         return if count > 0 {
             Some(alone(GameKey::UnusedSizes))
         } else {
@@ -138,7 +138,7 @@ fn form_with(no_limit: bool, key: GameKey, count: usize, behind: &[u8]) -> Optio
 }
 
 // Whether the key gives raise sizes in a no-limit game.
-fn is_unused(no_limit: bool, key: GameKey) -> bool
+fn has_ignored_sizes(no_limit: bool, key: GameKey) -> bool
     ensures { result ≡ forms.is_unused no_limit key }
 {
     match key {
@@ -165,7 +165,7 @@ fn count_numbers(text: &[u8]) -> Option<usize>
     let mut count = 0;
     let mut rest = text;
     while let Some((word, behind)) = next_word(rest) {
-        if !are_digits(word) {
+        if !is_all_digits(word) {
             return None;
         }
         count += 1;

@@ -10,17 +10,17 @@ use crate::entry::Entry;
 use crate::key::GameKey;
 
 /// Whether an entry has this key.
-pub fn has_key(entries: &[Entry], key: GameKey) -> bool
+pub fn has_entry(entries: &[Entry], key: GameKey) -> bool
     ensures { result ≡ game_entries.has_key key (map entry_said entries.now) }
 {
     match entries {
         [] => false,
-        [entry, rest @ ..] => entry.key.place() == key.place() || has_key(rest, key),
+        [entry, rest @ ..] => entry.key.place() == key.place() || has_entry(rest, key),
     }
 }
 
 /// The line of a key.
-pub fn line_at(entries: &[Entry], key: GameKey) -> u64
+pub fn find_line(entries: &[Entry], key: GameKey) -> u64
     ensures { result ≡ game_entries.line_at key (map entry_said entries.now) }
 {
     match find_entry(entries, key) {
@@ -30,23 +30,23 @@ pub fn line_at(entries: &[Entry], key: GameKey) -> u64
 }
 
 /// Whether a key has one number for each player.
-pub fn has_one_for_each_player(entries: &[Entry], key: GameKey) -> bool
+pub fn matches_player_count(entries: &[Entry], key: GameKey) -> bool
     ensures { result ≡ game_file.has_one_for_each_player key (map entry_said entries.now) }
 {
-    numbers_at(entries, key).len() as u64 == number_at(entries, GameKey::NumPlayers)
+    find_numbers(entries, key).len() as u64 == find_number(entries, GameKey::NumPlayers)
 }
 
 /// The one number of a key.
-pub fn number_at(entries: &[Entry], key: GameKey) -> u64
+pub fn find_number(entries: &[Entry], key: GameKey) -> u64
     ensures { result ≡ game_entries.number_at key (map entry_said entries.now) }
 {
-    let numbers = numbers_at(entries, key);
+    let numbers = find_numbers(entries, key);
     if numbers.is_empty() { 0 } else { numbers[0] }
 }
 
 /// The numbers of a key; none if there is no entry with this key.
 #[tactic(auto, using(crate::proofs::Bounds::within_most))]
-pub fn numbers_at(entries: &[Entry], key: GameKey) -> &[u64]
+pub fn find_numbers(entries: &[Entry], key: GameKey) -> &[u64]
     ensures few { are_chips result.now ≡ true }
     ensures numbers { result.now ≡ game_entries.numbers_at key (map entry_said entries.now) }
 {

@@ -30,31 +30,31 @@ pub enum GameKey {
 }
 
 /// The key that a word names, if it takes numbers.
-pub fn key_named(word: &[u8]) -> Option<GameKey>
+pub fn parse_key(word: &[u8]) -> Option<GameKey>
     ensures { result ≡ keys.key_named word.now }
 {
-    match card_key_named(word) {
+    match parse_card_key(word) {
         Some(key) => Some(key),
-        None => chip_key_named(word),
+        None => parse_chip_key(word),
     }
 }
 
 // The key that a word names, if it takes one number or is that of the board cards.
 #[tactic(auto, unfolding(crate::specs::Keys::card_key_named))]
-fn card_key_named(word: &[u8]) -> Option<GameKey>
+fn parse_card_key(word: &[u8]) -> Option<GameKey>
     ensures { result ≡ keys.card_key_named word.now }
 {
-    if is_word("numPlayers", word) {
+    if equals_ignoring_case("numPlayers", word) {
         Some(GameKey::NumPlayers)
-    } else if is_word("numRounds", word) {
+    } else if equals_ignoring_case("numRounds", word) {
         Some(GameKey::NumRounds)
-    } else if is_word("numSuits", word) {
+    } else if equals_ignoring_case("numSuits", word) {
         Some(GameKey::NumSuits)
-    } else if is_word("numRanks", word) {
+    } else if equals_ignoring_case("numRanks", word) {
         Some(GameKey::NumRanks)
-    } else if is_word("numHoleCards", word) {
+    } else if equals_ignoring_case("numHoleCards", word) {
         Some(GameKey::NumHoleCards)
-    } else if is_word("numBoardCards", word) {
+    } else if equals_ignoring_case("numBoardCards", word) {
         Some(GameKey::NumBoardCards)
     } else {
         None
@@ -63,18 +63,18 @@ fn card_key_named(word: &[u8]) -> Option<GameKey>
 
 // The key that a word names, if it is one of chips or of turns.
 #[tactic(auto, unfolding(crate::specs::Keys::chip_key_named))]
-fn chip_key_named(word: &[u8]) -> Option<GameKey>
+fn parse_chip_key(word: &[u8]) -> Option<GameKey>
     ensures { result ≡ keys.chip_key_named word.now }
 {
-    if is_word("stack", word) {
+    if equals_ignoring_case("stack", word) {
         Some(GameKey::Stack)
-    } else if is_word("blind", word) {
+    } else if equals_ignoring_case("blind", word) {
         Some(GameKey::Blind)
-    } else if is_word("raiseSize", word) {
+    } else if equals_ignoring_case("raiseSize", word) {
         Some(GameKey::RaiseSize)
-    } else if is_word("firstPlayer", word) {
+    } else if equals_ignoring_case("firstPlayer", word) {
         Some(GameKey::FirstPlayer)
-    } else if is_word("maxRaises", word) {
+    } else if equals_ignoring_case("maxRaises", word) {
         Some(GameKey::MaxRaises)
     } else {
         None
@@ -83,7 +83,7 @@ fn chip_key_named(word: &[u8]) -> Option<GameKey>
 
 /// Whether the text is this word, in capitals or small letters.
 #[tactic(auto, unfolding(crate::specs::Keys::is_word), using(card_set::proofs::Bytes::equal_by_test))]
-pub fn is_word(name: &str, text: &[u8]) -> bool
+pub fn equals_ignoring_case(name: &str, text: &[u8]) -> bool
     ensures { result ≡ keys.is_word name.now text.now }
 {
     text.eq_ignore_ascii_case(name.as_bytes())
@@ -127,7 +127,7 @@ impl GameKey {
 
     /// Whether the key takes `count` numbers.
     pub fn has_count(self, count: usize) -> bool
-        ensures { result ≡ keys.has_count self count }
+        ensures { result ≡ keys.takes_count self count }
     {
         match self {
             GameKey::Begin

@@ -13,15 +13,16 @@ mod laws;
 mod letters;
 mod lines;
 mod parts;
+mod player_amounts;
 mod reading;
 mod supported;
 mod writing;
 
-pub use fault::{AcpcFault, LineFault, LineFaultKind, fault_in_line};
+pub use fault::{AcpcFault, LineFault, LineFaultKind, to_file_fault};
 pub use game::Game;
 pub use laws::{law_of_reading_again, law_of_spellings};
 pub use letters::{cut_digits, cut_first};
 pub use parts::{count_parts, cut_at, has_prefix, next_line};
 pub use reading::read_game;
-pub use supported::{greatest, has_short_stack};
+pub use supported::{greatest, has_unplayable_stack};
 pub use writing::write_game;

@@ -12,10 +12,10 @@ ghost use Rattle.acpc_game.specs.GameEntries as game_entries;
 ghost use Rattle.acpc_game.specs.Keys.{most_of};
 
 use crate::entry::Entry;
-use crate::fault::{AcpcFault, LineFault, LineFaultKind, fault_in_line};
-use crate::form::{is_passed_over, read_form};
-use crate::found::has_key;
-use crate::key::{GameKey, is_word};
+use crate::fault::{AcpcFault, LineFault, LineFaultKind, to_file_fault};
+use crate::form::{is_ignored, read_form};
+use crate::found::has_entry;
+use crate::key::{GameKey, equals_ignoring_case};
 use crate::parts::next_line;
 use card_set::TryPush;
 use first_fault::{ReadError, next_word, read_digits};
@@ -26,7 +26,7 @@ pub fn read_entries(alloc: Global, bytes: &[u8]) -> Result<(Vec<Entry>, u64), Re
     ensures { Gives (λ found. (map entry_said found.0.items, found.1)) result
         (entries_said bytes.now) }
 {
-    read_lines(alloc, says_no_limit(bytes), bytes)
+    read_lines(alloc, is_no_limit_file(bytes), bytes)
 }
 
 // The entries of the lines of a limit or no-limit game, and the number of lines.
@@ -50,12 +50,12 @@ fn read_lines(
 }
 
 // Whether some line says that the game is no-limit.
-fn says_no_limit(bytes: &[u8]) -> bool
+fn is_no_limit_file(bytes: &[u8]) -> bool
     ensures { result ≡ game_entries.says_no_limit (lines_of bytes.now) }
 {
     let mut rest = bytes;
     while let Some((line, behind)) = next_line(rest) {
-        if is_word("nolimit", line) {
+        if equals_ignoring_case("nolimit", line) {
             return true;
         }
         rest = behind;
@@ -78,13 +78,13 @@ fn take_line(
     ensures err { IfErr result (λ stop. Fails stop
         (entries_after_line no_limit (map entry_said entries.old.items) line text.now)) }
 {
-    if is_passed_over(text) {
+    if is_ignored(text) {
         return Ok(());
     }
     let Some(form) = read_form(no_limit, text) else {
         return Err(fault_at(LineFaultKind::GameShape, line));
     };
-    if !may_come_next(entries.as_slice(), form.key) {
+    if !is_allowed_next(entries.as_slice(), form.key) {
         return Err(fault_at(LineFaultKind::GameShape, line));
     }
     let numbers = read_numbers(alloc, line, form.key, form.numbers)?;
@@ -97,12 +97,12 @@ fn take_line(
 }
 
 // Whether a key is allowed after these entries.
-fn may_come_next(entries: &[Entry], key: GameKey) -> bool
+fn is_allowed_next(entries: &[Entry], key: GameKey) -> bool
     ensures { result ≡ game_entries.may_come_next key (map entry_said entries.now) }
 {
     match key {
         GameKey::Begin => entries.is_empty(),
-        _ => !entries.is_empty() && !has_key(entries, GameKey::End) && !has_key(entries, key),
+        _ => !entries.is_empty() && !has_entry(entries, GameKey::End) && !has_entry(entries, key),
     }
 }
 
@@ -148,5 +148,5 @@ pub fn fault_at(what: LineFaultKind, line: u64) -> ReadError<AcpcFault>
     ensures { result ≡ ReadError.Fault
         (faults.fault_in_line line (record { what = what; byte = 1 })) }
 {
-    ReadError::Fault(fault_in_line(line, LineFault { what, byte: 1 }))
+    ReadError::Fault(to_file_fault(line, LineFault { what, byte: 1 }))
 }

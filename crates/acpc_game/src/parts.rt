@@ -29,13 +29,13 @@ pub fn next_line(text: &[u8]) -> Option<(&[u8], &[u8])>
         return None;
     }
     match memchr(b'\n', text) {
-        Some(place) => Some((without_return(&text[..place]), &text[place + 1..])),
-        None => Some((without_return(text), &[])),
+        Some(place) => Some((strip_carriage_return(&text[..place]), &text[place + 1..])),
+        None => Some((strip_carriage_return(text), &[])),
     }
 }
 
 // The line without the carriage return at its end, if there is one.
-fn without_return(line: &[u8]) -> &[u8]
+fn strip_carriage_return(line: &[u8]) -> &[u8]
     ensures within { length result.now ≤ length line.now }
     ensures line { result.now ≡ parts.without_return line.now }
 {

@@ -1,5 +1,5 @@
 //! Reads a game file as the one game that it says, or names its first fault.
-ghost use Rattle.std.specs.Prelude.{◌≡◌, ◌≤◌, if◌then◌else◌, true, nat_le, None, length, map, option_map, slice_index, IfOk, IfErr};
+ghost use Rattle.std.specs.Prelude.{◌≡◌, if◌then◌else◌, true, nat_le, None, length, map, option_map, slice_index, IfOk, IfErr};
 ghost use Rattle.std.specs.List.{list_all};
 ghost use Rattle.first_fault.specs.Reading.{Gives, IsOutOfMemory};
 ghost use Rattle.acpc_game.specs.Faults.{Answers};
@@ -15,11 +15,14 @@ ghost use Rattle.acpc_game.specs.Playable.{IsPlayable};
 
 use crate::entry::Entry;
 use crate::fault::{AcpcFault, LineFaultKind};
-use crate::found::{find_entry, has_key, line_at, numbers_at};
+use crate::found::{find_entry, find_line, find_numbers, has_entry};
 use crate::game::Game;
 use crate::key::GameKey;
 use crate::lines::{fault_at, read_entries};
-use crate::supported::{first_unsupported, has_no_limit, is_complete, line_of_end};
+use crate::player_amounts::PlayerAmounts;
+use crate::supported::{
+    find_end_line, find_first_unsupported, has_everything_needed, is_no_limit_game,
+};
 use card_set::{repeated_for, vec_from};
 use chip_ledger::SeatRow;
 use first_fault::ReadError;
@@ -51,12 +54,12 @@ fn read(alloc: Global, bytes: &[u8]) -> Result<Game, ReadError<AcpcFault>>
 fn game_by_end(alloc: Global, entries: &[Entry], count: u64) -> Result<Game, ReadError<AcpcFault>>
     ensures { Gives game_in result (game_or_fault count (map entry_said entries.now)) }
 {
-    if !is_complete(entries) {
-        return Err(fault_at(LineFaultKind::GameShape, line_of_end(entries, count)));
+    if !has_everything_needed(entries) {
+        return Err(fault_at(LineFaultKind::GameShape, find_end_line(entries, count)));
     }
     let stacks = stacks_of(alloc, entries)?;
-    match first_unsupported(entries, stacks.as_slice()) {
-        Some(key) => Err(fault_at(LineFaultKind::UnsupportedGame, line_at(entries, key))),
+    match find_first_unsupported(entries, stacks.as_slice()) {
+        Some(key) => Err(fault_at(LineFaultKind::UnsupportedGame, find_line(entries, key))),
         None => Ok(build(entries, stacks.as_slice())),
     }
 }
@@ -68,10 +71,10 @@ fn stacks_of(alloc: Global, entries: &[Entry]) -> Result<Vec<u64>, ReadError<Acp
     ensures few { IfOk result (λ stacks. are_chips stacks.items ≡ true) }
     ensures memory { IfErr result IsOutOfMemory }
 {
-    if has_key(entries, GameKey::Stack) {
-        Ok(vec_from(alloc, numbers_at(entries, GameKey::Stack))?)
+    if has_entry(entries, GameKey::Stack) {
+        Ok(vec_from(alloc, find_numbers(entries, GameKey::Stack))?)
     } else {
-        let blinds = numbers_at(entries, GameKey::Blind);
+        let blinds = find_numbers(entries, GameKey::Blind);
         Ok(repeated_for(alloc, DEFAULT_STACK, blinds)?)
     }
 }
@@ -85,16 +88,16 @@ fn build(entries: &[Entry], stacks: &[u64]) -> Game
     requires few { are_chips stacks.now ≡ true }
     ensures { game_in result ≡ game_of_entries (map entry_said entries.now) }
 {
-    let blinds = numbers_at(entries, GameKey::Blind);
-    let sizes = numbers_at(entries, GameKey::RaiseSize);
-    let no_limit = has_no_limit(entries);
-    let small_raise = raise_size_at(no_limit, sizes, 0);
-    let big_raise = raise_size_at(no_limit, sizes, 2);
+    let blinds = find_numbers(entries, GameKey::Blind);
+    let sizes = find_numbers(entries, GameKey::RaiseSize);
+    let no_limit = is_no_limit_game(entries);
+    let small_raise = find_raise_size(no_limit, sizes, 0);
+    let big_raise = find_raise_size(no_limit, sizes, 2);
     let caps = caps_of(entries);
     Game {
         no_limit,
-        stacks: row_of(stacks),
-        blinds: row_of(blinds),
+        stacks: row_of(&PlayerAmounts { amounts: stacks }),
+        blinds: row_of(&PlayerAmounts { amounts: blinds }),
         small_raise,
         big_raise,
         caps,
@@ -102,7 +105,7 @@ fn build(entries: &[Entry], stacks: &[u64]) -> Game
 }
 
 // The raise size at a place of the four (from 0) in a limit game; 0 in no-limit.
-fn raise_size_at(no_limit: bool, sizes: &[u64], place: usize) -> u64
+fn find_raise_size(no_limit: bool, sizes: &[u64], place: usize) -> u64
     ensures { result ≡ (if no_limit then 0 else slice_index sizes.now place) }
 {
     if no_limit || place >= sizes.len() {
@@ -138,13 +141,11 @@ fn four_caps(numbers: &[u64]) -> [u32; 4]
 }
 
 // A row of these amounts.
-fn row_of(numbers: &[u64]) -> SeatRow
-    requires least { 2 ≤ length numbers.now }
-    requires greatest { length numbers.now ≤ 10 }
-    requires few { are_chips numbers.now ≡ true }
-    ensures amounts { amounts_in result ≡ numbers.now }
-    ensures seats { result.seats ≡ length numbers.now }
+fn row_of(players: &PlayerAmounts) -> SeatRow
+    ensures amounts { amounts_in result ≡ players.now.amounts.now }
+    ensures seats { result.seats ≡ length players.now.amounts.now }
 {
+    let numbers = players.amounts;
     let mut amounts = [0; 10];
     for (index, number) in numbers.iter().enumerate() {
         amounts[index] = *number;

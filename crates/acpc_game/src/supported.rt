@@ -10,27 +10,27 @@ ghost use Rattle.acpc_game.specs.GameFile as game_file;
 ghost use Rattle.first_fault.specs.Conditions.{first_where};
 
 use crate::entry::Entry;
-use crate::found::{find_entry, has_key, has_one_for_each_player, number_at, numbers_at};
+use crate::found::{find_entry, find_number, find_numbers, has_entry, matches_player_count};
 use crate::key::GameKey;
 
 /// Whether nothing is missing.
 #[tactic(auto, unfolding(crate::specs::GameFile::is_complete))]
-pub fn is_complete(entries: &[Entry]) -> bool
+pub fn has_everything_needed(entries: &[Entry]) -> bool
     ensures { result ≡ game_file.is_complete (map entry_said entries.now) }
 {
     if !has_needed(entries) {
         return false;
     }
-    let sizes = if has_no_limit(entries) {
+    let sizes = if is_no_limit_game(entries) {
         GameKey::Stack
     } else {
         GameKey::RaiseSize
     };
-    if !has_key(entries, sizes) {
+    if !has_entry(entries, sizes) {
         return false;
     }
-    has_one_for_each_player(entries, GameKey::Blind)
-        && (!has_key(entries, GameKey::Stack) || has_one_for_each_player(entries, GameKey::Stack))
+    matches_player_count(entries, GameKey::Blind)
+        && (!has_entry(entries, GameKey::Stack) || matches_player_count(entries, GameKey::Stack))
 }
 
 // Whether each key that every game file needs is there.
@@ -38,21 +38,21 @@ fn has_needed(entries: &[Entry]) -> bool
     ensures { result
         ≡ list_all (λ key. game_entries.has_key key (map entry_said entries.now)) required_keys }
 {
-    has_key(entries, GameKey::Begin)
-        && has_key(entries, GameKey::Limit)
-        && has_key(entries, GameKey::NumPlayers)
-        && has_key(entries, GameKey::NumRounds)
-        && has_key(entries, GameKey::Blind)
-        && has_key(entries, GameKey::FirstPlayer)
-        && has_key(entries, GameKey::NumSuits)
-        && has_key(entries, GameKey::NumRanks)
-        && has_key(entries, GameKey::NumHoleCards)
-        && has_key(entries, GameKey::NumBoardCards)
-        && has_key(entries, GameKey::End)
+    has_entry(entries, GameKey::Begin)
+        && has_entry(entries, GameKey::Limit)
+        && has_entry(entries, GameKey::NumPlayers)
+        && has_entry(entries, GameKey::NumRounds)
+        && has_entry(entries, GameKey::Blind)
+        && has_entry(entries, GameKey::FirstPlayer)
+        && has_entry(entries, GameKey::NumSuits)
+        && has_entry(entries, GameKey::NumRanks)
+        && has_entry(entries, GameKey::NumHoleCards)
+        && has_entry(entries, GameKey::NumBoardCards)
+        && has_entry(entries, GameKey::End)
 }
 
 /// The line that a fault of the whole file names.
-pub fn line_of_end(entries: &[Entry], count: u64) -> u64
+pub fn find_end_line(entries: &[Entry], count: u64) -> u64
     ensures { result ≡ game_file.line_of_end count (map entry_said entries.now) }
 {
     match find_entry(entries, GameKey::End) {
@@ -63,62 +63,62 @@ pub fn line_of_end(entries: &[Entry], count: u64) -> u64
 
 /// The first key that shows that handref does not support the game, if any.
 #[tactic(auto, unfolding(crate::specs::GameFile::first_unsupported))]
-pub fn first_unsupported(entries: &[Entry], stacks: &[u64]) -> Option<GameKey>
+pub fn find_first_unsupported(entries: &[Entry], stacks: &[u64]) -> Option<GameKey>
     requires { stacks.now ≡ stacks_at (map entry_said entries.now) }
     ensures { result ≡ game_file.first_unsupported (map entry_said entries.now) }
 {
-    if let Some(key) = unsupported_counts(entries) {
+    if let Some(key) = find_unsupported_count(entries) {
         return Some(key);
     }
-    if has_short_stack(stacks, numbers_at(entries, GameKey::Blind)) {
-        return Some(if has_key(entries, GameKey::Stack) {
+    if has_unplayable_stack(stacks, find_numbers(entries, GameKey::Blind)) {
+        return Some(if has_entry(entries, GameKey::Stack) {
             GameKey::Stack
         } else {
             GameKey::Blind
         });
     }
-    unsupported_bets(entries)
+    find_unsupported_bet(entries)
 }
 
 // The first number of players, rounds or cards that handref does not support.
-fn unsupported_counts(entries: &[Entry]) -> Option<GameKey>
+fn find_unsupported_count(entries: &[Entry]) -> Option<GameKey>
     ensures { result ≡ first_where (game_file.unsupported_counts (map entry_said entries.now)) }
 {
-    let players = number_at(entries, GameKey::NumPlayers);
+    let players = find_number(entries, GameKey::NumPlayers);
     if !(2 <= players && players <= 10) {
         return Some(GameKey::NumPlayers);
     }
-    if number_at(entries, GameKey::NumRounds) != 4 {
+    if find_number(entries, GameKey::NumRounds) != 4 {
         return Some(GameKey::NumRounds);
     }
-    if number_at(entries, GameKey::NumSuits) != 4 {
+    if find_number(entries, GameKey::NumSuits) != 4 {
         return Some(GameKey::NumSuits);
     }
-    if number_at(entries, GameKey::NumRanks) != 13 {
+    if find_number(entries, GameKey::NumRanks) != 13 {
         return Some(GameKey::NumRanks);
     }
-    if number_at(entries, GameKey::NumHoleCards) != 2 {
+    if find_number(entries, GameKey::NumHoleCards) != 2 {
         return Some(GameKey::NumHoleCards);
     }
-    if !are_four(numbers_at(entries, GameKey::NumBoardCards), [0, 3, 1, 1]) {
+    if !equals_four(find_numbers(entries, GameKey::NumBoardCards), [0, 3, 1, 1]) {
         return Some(GameKey::NumBoardCards);
     }
     None
 }
 
 // The first blinds, first player or raise sizes that handref does not support.
-fn unsupported_bets(entries: &[Entry]) -> Option<GameKey>
+fn find_unsupported_bet(entries: &[Entry]) -> Option<GameKey>
     ensures { result ≡ first_where (game_file.unsupported_bets (map entry_said entries.now)) }
 {
-    let blinds = numbers_at(entries, GameKey::Blind);
-    let sizes = numbers_at(entries, GameKey::RaiseSize);
-    let no_limit = has_no_limit(entries);
+    let blinds = find_numbers(entries, GameKey::Blind);
+    let sizes = find_numbers(entries, GameKey::RaiseSize);
+    let no_limit = is_no_limit_game(entries);
     let most = greatest(blinds);
-    if is_reversed(blinds) {
+    if has_smaller_first_blind(blinds) {
         return Some(GameKey::Blind);
     }
-    if !are_four(
-        numbers_at(entries, GameKey::FirstPlayer),
+    if !equals_four(
+        find_numbers(entries, GameKey::FirstPlayer),
         [opener_of(blinds), 1, 1, 1],
     ) {
         return Some(GameKey::FirstPlayer);
@@ -126,7 +126,7 @@ fn unsupported_bets(entries: &[Entry]) -> Option<GameKey>
     if no_limit && most == 0 {
         return Some(GameKey::Blind);
     }
-    if !no_limit && !are_sizes(sizes) {
+    if !no_limit && !are_two_equal_pairs(sizes) {
         return Some(GameKey::RaiseSize);
     }
     if !no_limit && is_small_blind_of(most, sizes) {
@@ -136,7 +136,7 @@ fn unsupported_bets(entries: &[Entry]) -> Option<GameKey>
 }
 
 /// Whether the game is no-limit.
-pub fn has_no_limit(entries: &[Entry]) -> bool
+pub fn is_no_limit_game(entries: &[Entry]) -> bool
     ensures { result ≡ game_entries.has_no_limit (map entry_said entries.now) }
 {
     match find_entry(entries, GameKey::Limit) {
@@ -149,7 +149,7 @@ pub fn has_no_limit(entries: &[Entry]) -> bool
 }
 
 /// Whether some stack is 0, or below its blind.
-pub fn has_short_stack(stacks: &[u64], blinds: &[u64]) -> bool
+pub fn has_unplayable_stack(stacks: &[u64], blinds: &[u64]) -> bool
     ensures { result ≡ game_file.has_short_stack stacks.now blinds.now }
 {
     match stacks {
@@ -157,14 +157,14 @@ pub fn has_short_stack(stacks: &[u64], blinds: &[u64]) -> bool
         [stack, stacks @ ..] => match blinds {
             [] => false,
             [blind, blinds @ ..] => {
-                *stack == 0 || *stack < *blind || has_short_stack(stacks, blinds)
+                *stack == 0 || *stack < *blind || has_unplayable_stack(stacks, blinds)
             }
         },
     }
 }
 
 // Whether there are two players, and the second blind is greater than the first.
-fn is_reversed(blinds: &[u64]) -> bool
+fn has_smaller_first_blind(blinds: &[u64]) -> bool
     ensures { result ≡ game_file.is_reversed blinds.now }
 {
     match blinds {
@@ -174,7 +174,7 @@ fn is_reversed(blinds: &[u64]) -> bool
 }
 
 // Whether the numbers are these four.
-fn are_four(numbers: &[u64], four: [u64; 4]) -> bool
+fn equals_four(numbers: &[u64], four: [u64; 4]) -> bool
     ensures { result
         ≡ game_file.are_four (slice_index four 0) (slice_index four 1) (slice_index four 2)
         (slice_index four 3) numbers.now }
@@ -192,7 +192,7 @@ pub fn opener_of(blinds: &[u64]) -> u64
     if blinds.len() == 2 {
         return 2;
     }
-    let place = last_seat_with(greatest(blinds), blinds);
+    let place = find_last_seat(greatest(blinds), blinds);
     if place == blinds.len() {
         1
     } else {
@@ -201,14 +201,14 @@ pub fn opener_of(blinds: &[u64]) -> u64
 }
 
 // The last place (from 1) of a number, or 0.
-fn last_seat_with(number: u64, numbers: &[u64]) -> usize
+fn find_last_seat(number: u64, numbers: &[u64]) -> usize
     ensures place { result ≡ game_file.last_seat_with number numbers.now }
     ensures within { result ≤ length numbers.now }
 {
     match numbers {
         [] => 0,
         [first, rest @ ..] => {
-            let place = last_seat_with(number, rest);
+            let place = find_last_seat(number, rest);
             if place > 0 {
                 place + 1
             } else if *first == number {
@@ -234,7 +234,7 @@ pub fn greatest(numbers: &[u64]) -> u64
 }
 
 // Whether the raise sizes are two equal ones and two more equal ones, each at least 1.
-fn are_sizes(sizes: &[u64]) -> bool
+fn are_two_equal_pairs(sizes: &[u64]) -> bool
     ensures { result ≡ game_file.are_sizes sizes.now }
 {
     match sizes {

@@ -7,7 +7,7 @@ use Rattle.card_set.specs.declared.card.Slot.{Slot}
 use Rattle.card_set.specs.declared.row.SlotRow.{SlotRow}
 use Rattle.card_set.specs.Row.{slots_of}
 use Rattle.card_set.specs.declared.spelling.CardFault.{CardFault}
-use Rattle.card_set.specs.Known.{is_unknown}
+use Rattle.card_set.specs.Known.{hides_card}
 use Rattle.card_set.specs.Spelling.{spelling, slots_spelled, HasFault}
 use Rattle.card_set.proofs.Spelled.{slots_spelled-spelling, spelling-slots_spelled, fault_spells_nothing}
 use Rattle.acpc_reading.specs.Cards.{only_known, known_said}
@@ -20,9 +20,9 @@ known_read count word cards is = ap (option_and_then (only_known count)) (ap slo
 
 other_count : (count : ℕ) (cards : List Slot) → (length cards ≡ count → ⊥) → only_known count cards ≡ None
 other_count count cards other =
-    elim (cases_Bool (eqb (length cards) count && not (list_any is_unknown cards))) [
+    elim (cases_Bool (eqb (length cards) count && not (list_any hides_card cards))) [
       | inl both ↦
-          let same : eqb (length cards) count ≡ true = (and_parts (eqb (length cards) count) (not (list_any is_unknown cards)) both).0 in
+          let same : eqb (length cards) count ≡ true = (and_parts (eqb (length cards) count) (not (list_any hides_card cards)) both).0 in
           absurd (other (grind (arith, nat_tests, same)))
       | inr none ↦ rw none refl
     ]
@@ -44,11 +44,11 @@ pub other_len : (count : ℕ) (word : List ℕ) (row : SlotRow) → word ≡ spe
 other_len count word row is other = known_read count word (slots_of row) is ∙ other_count count (slots_of row) (λ same. other (sym (row_length row) ∙ same))
 
 -- the letters of a row with an unknown slot
-pub some_unknown : (count : ℕ) (word : List ℕ) (row : SlotRow) → word ≡ spelling (slots_of row) → list_any is_unknown (slots_of row) ≡ true → known_said count word ≡ None
-some_unknown count word row is some = known_read count word (slots_of row) is ∙ without (eqb (length (slots_of row)) count) (slots_of row) (not (list_any is_unknown (slots_of row))) (ap not some)
+pub some_unknown : (count : ℕ) (word : List ℕ) (row : SlotRow) → word ≡ spelling (slots_of row) → list_any hides_card (slots_of row) ≡ true → known_said count word ≡ None
+some_unknown count word row is some = known_read count word (slots_of row) is ∙ without (eqb (length (slots_of row)) count) (slots_of row) (not (list_any hides_card (slots_of row))) (ap not some)
 
 -- the letters of a row of `count` known slots
-pub all_known : (count : ℕ) (word : List ℕ) (row : SlotRow) → word ≡ spelling (slots_of row) → row.len ≡ count → list_any is_unknown (slots_of row) ≡ false → known_said count word ≡ Some (slots_of row)
+pub all_known : (count : ℕ) (word : List ℕ) (row : SlotRow) → word ≡ spelling (slots_of row) → row.len ≡ count → list_any hides_card (slots_of row) ≡ false → known_said count word ≡ Some (slots_of row)
 all_known count word row is same all =
     let long : eqb (length (slots_of row)) count ≡ true = grind (arith, nat_tests, row_length row, same) in
     known_read count word (slots_of row) is ∙ rw (long, all) refl

@@ -8,8 +8,8 @@ use Rattle.chip_ledger.specs.Greatest.{greatest}
 use Rattle.chip_ledger.specs.SeatRow.{amount_of, amounts_in}
 use Rattle.play_event.specs.declared.setup.Setup.{Setup}
 use Rattle.play_event.specs.Games.{game_of}
-use Rattle.play_event.specs.Streets.{limit_of, is_stud}
-use Rattle.play_event.specs.ValidSetup.{IsSizeWhere, IsValid, is_fixed}
+use Rattle.play_event.specs.Streets.{limit_of, is_stud_game}
+use Rattle.play_event.specs.ValidSetup.{IsSizeWhere, IsValid, is_fixed_limit}
 use Rattle.acpc_game.specs.declared.game.Game.{Game}
 use Rattle.acpc_game.specs.GameFile.{has_short_stack, is_reversed}
 use Rattle.acpc_game.specs.Games.{are_chips, has_fitting_sizes}
@@ -59,9 +59,9 @@ in_order (first ∷ second ∷ rest) some is = let other : nat_lt first second �
 
 -- the bet sizes of a game are those that its setup uses
 record AreSized (no_limit : Bool) (blind small big : ℕ) : Type 0 where
-  small_bet : IsSizeWhere (is_fixed (limit_of (code_of no_limit))) small
-  big_bet : IsSizeWhere (is_fixed (limit_of (code_of no_limit))) big
-  least_bet : IsSizeWhere (not (is_fixed (limit_of (code_of no_limit)))) (if no_limit then blind else 0)
+  small_bet : IsSizeWhere (is_fixed_limit (limit_of (code_of no_limit))) small
+  big_bet : IsSizeWhere (is_fixed_limit (limit_of (code_of no_limit))) big
+  least_bet : IsSizeWhere (not (is_fixed_limit (limit_of (code_of no_limit)))) (if no_limit then blind else 0)
 
 sized : (no_limit : Bool) (blind small big : ℕ) → blind ≤ MOST_CHIPS → has_fitting_sizes no_limit blind small big ≡ true → AreSized no_limit blind small big
 sized true blind small big few fit =
@@ -87,11 +87,11 @@ few_players : (no_limit : Bool) (players : ℕ) → players ≤ 10 → players �
 few_players true players few = few
 few_players false players few = few
 
-no_bring_in : (no_limit : Bool) → IsSizeWhere (is_stud (code_of no_limit)) 0
+no_bring_in : (no_limit : Bool) → IsSizeWhere (is_stud_game (code_of no_limit)) 0
 no_bring_in true = refl
 no_bring_in false = refl
 
-no_stud : (no_limit : Bool) → is_stud (code_of no_limit) ≡ true → ⊥
+no_stud : (no_limit : Bool) → is_stud_game (code_of no_limit) ≡ true → ⊥
 no_stud true is = cc (is)
 no_stud false is = cc (is)
 

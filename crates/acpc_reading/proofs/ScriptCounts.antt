@@ -4,7 +4,7 @@ use Rattle.std.proofs.lemmas.Bool.Decides.{nat_tests}
 use Rattle.std.proofs.lemmas.Result.{IfOk-at_ok}
 use Rattle.card_set.proofs.Counting.{count_by-push, count_by-cons}
 use Rattle.card_set.proofs.Options.{along}
-use Rattle.play_event.specs.PlayedScript.{is_move, IsWithinLimits}
+use Rattle.play_event.specs.PlayedScript.{is_move_event, IsWithinLimits}
 use Rattle.first_fault.specs.declared.limits.TheConstants.{MOST_FILE_MOVES}
 use Rattle.play_event.specs.declared.event.Event.{Event}
 use Rattle.play_event.specs.declared.event.Spelled.TheVariants as spelled
@@ -23,33 +23,33 @@ use Rattle.card_set.proofs.Results.{ok_either, ok_where_some}
 
 -- the number of moves among events
 abbrev pub moves_in : List Numbered → ℕ
-moves_in events = count_by (λ event. is_move event.1) events
+moves_in events = count_by (λ event. is_move_event event.1) events
 
 -- the number of other events
 abbrev pub others_in : List Numbered → ℕ
-others_in events = count_by (λ event. not (is_move event.1)) events
+others_in events = count_by (λ event. not (is_move_event event.1)) events
 
 -- this number of moves and other events follow some events
 pub record Adds (moves others : ℕ) (before after : List Numbered) : Type 0 where
   pub moves_are : moves_in after ≡ moves_in before + moves
   pub others_are : others_in after ≡ others_in before + others
 
-one_other : (events : List Numbered) (number : ℕ) (event : Said) → is_move event ≡ false → Adds 0 1 events (events ++ (number, event) ∷ [])
+one_other : (events : List Numbered) (number : ℕ) (event : Said) → is_move_event event ≡ false → Adds 0 1 events (events ++ (number, event) ∷ [])
 one_other events number event is =
-    let one : ◌≡◌ {A = ℕ} (cond (not (is_move event)) 1 0) 1 = rw is refl in
-    let none : ◌≡◌ {A = ℕ} (cond (is_move event) 1 0) 0 = rw is refl in
+    let one : ◌≡◌ {A = ℕ} (cond (not (is_move_event event)) 1 0) 1 = rw is refl in
+    let none : ◌≡◌ {A = ℕ} (cond (is_move_event event) 1 0) 0 = rw is refl in
     record {
-      moves_are = omega (arith, count_by-push (λ event. is_move event.1) events (number, event), none);
-      others_are = omega (arith, count_by-push (λ event. not (is_move event.1)) events (number, event), one);
+      moves_are = omega (arith, count_by-push (λ event. is_move_event event.1) events (number, event), none);
+      others_are = omega (arith, count_by-push (λ event. not (is_move_event event.1)) events (number, event), one);
     }
 
-one_move : (events : List Numbered) (number : ℕ) (event : Said) → is_move event ≡ true → Adds 1 0 events (events ++ (number, event) ∷ [])
+one_move : (events : List Numbered) (number : ℕ) (event : Said) → is_move_event event ≡ true → Adds 1 0 events (events ++ (number, event) ∷ [])
 one_move events number event is =
-    let one : ◌≡◌ {A = ℕ} (cond (is_move event) 1 0) 1 = rw is refl in
-    let none : ◌≡◌ {A = ℕ} (cond (not (is_move event)) 1 0) 0 = rw is refl in
+    let one : ◌≡◌ {A = ℕ} (cond (is_move_event event) 1 0) 1 = rw is refl in
+    let none : ◌≡◌ {A = ℕ} (cond (not (is_move_event event)) 1 0) 0 = rw is refl in
     record {
-      moves_are = omega (arith, count_by-push (λ event. is_move event.1) events (number, event), one);
-      others_are = omega (arith, count_by-push (λ event. not (is_move event.1)) events (number, event), none);
+      moves_are = omega (arith, count_by-push (λ event. is_move_event event.1) events (number, event), one);
+      others_are = omega (arith, count_by-push (λ event. not (is_move_event event.1)) events (number, event), none);
     }
 
 -- the deals of hole cards
@@ -123,16 +123,16 @@ script_counted players all at (holes ∷ boards) =
     }) (all_steps at (dealt events boards) all)))
     (λ _. tt)
 
-moves_same : (script : List Event) → count_by is_move (map said_of script) ≡ moves_in (map numbered script)
+moves_same : (script : List Event) → count_by is_move_event (map said_of script) ≡ moves_in (map numbered script)
 moves_same [] = refl
-moves_same (event ∷ rest) = count_by-cons is_move (said_of event) (map said_of rest) ∙ ap (λ n. cond (is_move (said_of event)) 1 0 + n) (moves_same rest) ∙ sym (count_by-cons (λ event. is_move event.1) (numbered event) (map numbered rest))
+moves_same (event ∷ rest) = count_by-cons is_move_event (said_of event) (map said_of rest) ∙ ap (λ n. cond (is_move_event (said_of event)) 1 0 + n) (moves_same rest) ∙ sym (count_by-cons (λ event. is_move_event event.1) (numbered event) (map numbered rest))
 
-others_same : (script : List Event) → count_by (λ event. not (is_move event)) (map said_of script) ≡ others_in (map numbered script)
+others_same : (script : List Event) → count_by (λ event. not (is_move_event event)) (map said_of script) ≡ others_in (map numbered script)
 others_same [] = refl
 others_same (event ∷ rest) =
-    count_by-cons (λ event. not (is_move event)) (said_of event) (map said_of rest)
-    ∙ ap (λ n. cond (not (is_move (said_of event))) 1 0 + n) (others_same rest)
-    ∙ sym (count_by-cons (λ event. not (is_move event.1)) (numbered event) (map numbered rest))
+    count_by-cons (λ event. not (is_move_event event)) (said_of event) (map said_of rest)
+    ∙ ap (λ n. cond (not (is_move_event (said_of event))) 1 0 + n) (others_same rest)
+    ∙ sym (count_by-cons (λ event. not (is_move_event event.1)) (numbered event) (map numbered rest))
 
 module _ (no_limit : Bool) (players earlier betting_at at : ℕ) (text : List ℕ) (bets : Bets) (steps : List BettingStep) (parts : List (List ℕ)) (script : List Event)
     (few : earlier ≤ MOST_FILE_MOVES) (bets_are : betting_said no_limit earlier betting_at text ≡ Ok bets) (same : steps ≡ bets.steps) (script_is : script_said players steps at parts ≡ Ok (map numbered script)) where
@@ -156,7 +156,7 @@ module _ (no_limit : Bool) (players earlier betting_at at : ℕ) (text : List �
   }
 
   -- the moves of the file after it
-  pub file_moves_after : bets.file_moves ≡ earlier + count_by is_move (map said_of script)
+  pub file_moves_after : bets.file_moves ≡ earlier + count_by is_move_event (map said_of script)
   file_moves_after = omega (arith, moves_same script, adds.moves_are, letters_same, counted.moves, counted.file_moves)
 
   -- are within the limit

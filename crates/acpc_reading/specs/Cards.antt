@@ -5,7 +5,7 @@ use Rattle.std.specs.Option.{option_map, option_map_or}
 use Rattle.card_set.specs.declared.card.Card.{Card}
 use Rattle.card_set.specs.declared.card.Slot.{Slot}
 use Rattle.card_set.specs.declared.card.Slot.TheVariants as slots
-use Rattle.card_set.specs.Known.{is_unknown, known_cards}
+use Rattle.card_set.specs.Known.{hides_card, known_among}
 use Rattle.card_set.specs.Spelling.{slots_spelled}
 use Rattle.play_event.specs.declared.event.Spelled.TheVariants as spelled
 use Rattle.play_event.specs.Said as said
@@ -22,7 +22,7 @@ use Rattle.first_fault.specs.Numbers.{saturated}
 -- these cards, if there are `count` of them and all are known
 abbrev pub only_known : ℕ → List Slot → Option (List Slot)
 only_known count cards =
-    if length cards == count && not (list_any is_unknown cards) then Some cards else None
+    if length cards == count && not (list_any hides_card cards) then Some cards else None
 
 -- the `count` known cards that a text says
 unfoldable pub known_said : ℕ → List ℕ → Option (List Slot)
@@ -30,7 +30,7 @@ known_said count text = option_and_then (only_known count) (slots_spelled text)
 
 -- the `count` cards of the board that a text says
 abbrev pub board_said : ℕ → List ℕ → Option (List Card)
-board_said count text = option_map known_cards (known_said count text)
+board_said count text = option_map known_among (known_said count text)
 
 -- the hole cards of a seat: two known ones, or an empty text if they are unknown
 unfoldable pub hole_said : List ℕ → Option (List Slot)

@@ -3,7 +3,7 @@ ghost use Rattle.std.specs.Prelude.{◌≡◌, ◌+◌, ◌∷◌, ◌++◌, Lis
 ghost use Rattle.acpc_reading.specs.Begins.{hand_lines_from};
 ghost use Rattle.acpc_reading.specs.Begins as begins;
 
-use crate::log::is_passed_over;
+use crate::log::is_ignored;
 use acpc_game::next_line;
 use card_set::{Memory, TryPush};
 use std::alloc::Global;
@@ -13,7 +13,7 @@ use std::alloc::Global;
 /// # Errors
 ///
 /// Out of memory.
-pub fn hand_lines(alloc: Global, bytes: &[u8]) -> Result<Vec<u64>, Memory>
+pub fn find_hand_lines(alloc: Global, bytes: &[u8]) -> Result<Vec<u64>, Memory>
     ensures { IfOk result (λ lines. lines.items ≡ begins.hand_lines bytes.now) }
 {
     let mut lines = Vec::new(alloc);
@@ -33,7 +33,7 @@ fn take_line(lines: &mut Vec<u64>, number: u64, line: &[u8]) -> Result<(), Memor
         → lines.new.items ++ hand_lines_from (number + 1) others
         ≡ lines.old.items ++ hand_lines_from number (line.now ∷ others)) }
 {
-    if is_passed_over(line) {
+    if is_ignored(line) {
         return Ok(());
     }
     lines.try_push(number)?;

@@ -17,5 +17,5 @@ mod setup;
 mod step;
 mod values;
 
-pub use begins::hand_lines;
+pub use begins::find_hand_lines;
 pub use log::read;

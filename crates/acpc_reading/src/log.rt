@@ -16,7 +16,7 @@ use crate::names::{read_hand, read_names};
 use crate::record::record_of;
 use crate::script::read_script;
 use crate::values::read_values;
-use acpc_game::{AcpcFault, Game, LineFault, LineFaultKind, fault_in_line, has_prefix, next_line};
+use acpc_game::{AcpcFault, Game, LineFault, LineFaultKind, has_prefix, next_line, to_file_fault};
 use first_fault::{MOST_HANDS, Quantity, ReadError};
 use hand_canon::Records;
 use std::alloc::Global;
@@ -74,7 +74,7 @@ fn take_line(
         (map record_said records.old, betting.old.file_moves) line text.now)) }
     ensures kept { OnOk result (AreOfGame game.now records.new betting.new.file_moves) }
 {
-    if is_passed_over(text) {
+    if is_ignored(text) {
         return Ok(());
     }
     if records.len() >= MOST_HANDS {
@@ -82,17 +82,17 @@ fn take_line(
             what: LineFaultKind::TooMany(Quantity::Hands),
             byte: 1,
         };
-        return Err(ReadError::Fault(fault_in_line(line, fault)));
+        return Err(ReadError::Fault(to_file_fault(line, fault)));
     }
     match read_line(alloc, game, records, betting, text) {
         Ok(()) => Ok(()),
         Err(ReadError::Memory(memory)) => Err(ReadError::Memory(memory)),
-        Err(ReadError::Fault(fault)) => Err(ReadError::Fault(fault_in_line(line, fault))),
+        Err(ReadError::Fault(fault)) => Err(ReadError::Fault(to_file_fault(line, fault))),
     }
 }
 
 /// Whether a line is ignored.
-pub fn is_passed_over(line: &[u8]) -> bool
+pub fn is_ignored(line: &[u8]) -> bool
     ensures { result ≡ logs.is_passed_over line.now }
 {
     line.is_empty() || line[0] == b'#' || has_prefix(line, b"SCORE:")
@@ -121,7 +121,7 @@ fn read_line(
         return Err(fault_at(LineFaultKind::LineShape, 1));
     }
     let fields = cut_fields(line)?;
-    let players = game.stacks.seats;
+    let players = game.stacks.players();
     let hand_at = 1 + fields.state.len() as u64 + 1;
     let betting_at = hand_at + fields.hand.len() as u64 + 1;
     let cards_at = betting_at + fields.betting.len() as u64 + 1;

@@ -10,8 +10,8 @@ use crate::letters::fault_at;
 use crate::parts::next_part;
 use acpc_game::{LineFault, LineFaultKind, count_parts};
 use card_set::displayed;
-use chip_ledger::Seat;
-use first_fault::{MOST_TEXT_BYTES, Quantity, ReadError, Text, are_digits, read_digits};
+use chip_ledger::{PlayerCount, Seat};
+use first_fault::{MOST_TEXT_BYTES, Quantity, ReadError, Text, is_all_digits, read_digits};
 use std::alloc::Global;
 
 // The most digits of a hand's number, and the greatest such number.
@@ -30,7 +30,7 @@ pub fn read_hand(
     ensures said { Gives (λ note. note) result (hand_said place at text.now) }
     ensures allowed { IfOk result (λ note. IfSome note IsNoteText) }
 {
-    if !are_digits(text) || text.len() > MOST_HAND_DIGITS {
+    if !is_all_digits(text) || text.len() > MOST_HAND_DIGITS {
         return Err(fault_at(LineFaultKind::LineShape, at));
     }
     match read_digits(text, MOST_HAND) {
@@ -46,24 +46,23 @@ pub fn read_hand(
     }
 }
 
-/// The names field, which begins at this byte, of a hand with `players` players. Seats above the
-/// last have no name.
+/// The names field, which begins at this byte, of a hand with this number of players. Seats above
+/// the last have no name.
 #[tactic(auto, unfolding(crate::specs::Names::names_said))]
 pub fn read_names(
     alloc: Global,
-    players: u8,
+    players: PlayerCount,
     at: u64,
     text: &[u8],
 ) -> Result<[Option<Text>; 10], ReadError<LineFault>>
-    requires few { players ≤ 10 }
-    requires near { at + length text.now < 2 ^ 64 - 1 }
-    ensures said { Gives (take players) result (names_said players at text.now) }
-    ensures each { IfOk result (λ names. (seat : ℕ) → 1 ≤ seat → seat ≤ players
+    requires { at + length text.now < 2 ^ 64 - 1 }
+    ensures said { Gives (take players.number) result (names_said players.number at text.now) }
+    ensures each { IfOk result (λ names. (seat : ℕ) → 1 ≤ seat → seat ≤ players.number
         → IfSome (slice_index_or names (seat - 1) None) (IsName seat)) }
-    ensures no_more { IfOk result (λ names. (index : ℕ) → players ≤ index
+    ensures no_more { IfOk result (λ names. (index : ℕ) → players.number ≤ index
         → slice_index_or names index None ≡ None) }
 {
-    if count_parts(text, b'|') != players as usize {
+    if count_parts(text, b'|') != players.number as usize {
         return Err(fault_at(LineFaultKind::SeatCount, at));
     }
     let mut names = [None, None, None, None, None, None, None, None, None, None];

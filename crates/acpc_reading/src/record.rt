@@ -6,7 +6,7 @@ ghost use Rattle.play_event.specs.Said.{numbered, said_of};
 ghost use Rattle.acpc_reading.specs.RecordView.{IsOfGame, NotesNames, StatesValues, record_said};
 ghost use Rattle.acpc_reading.specs.Views.{nets_in};
 
-use crate::setup::{rules_of, setup_of};
+use crate::setup::{make_rules, setup_of};
 use acpc_game::Game;
 use first_fault::Text;
 use hand_canon::{NetRow, Notes, Record, Stated};
@@ -38,7 +38,7 @@ pub fn record_of(
 {
     Record {
         setup: setup_of(game),
-        rules: rules_of(game),
+        rules: make_rules(game),
         script,
         stated: stating(values),
         notes: noting(names, hand),

@@ -13,7 +13,7 @@ use crate::parts::next_part;
 use crate::pending::Pending;
 use crate::step::BettingStep;
 use acpc_game::{Game, LineFault, LineFaultKind, count_parts, cut_at};
-use chip_ledger::Seat;
+use chip_ledger::{PlayerCount, Seat};
 use first_fault::{ReadError, saturating_u32};
 use play_event::{Event, Kind, Script, Spelled};
 use std::alloc::Global;
@@ -30,12 +30,12 @@ pub fn read_script(
     ensures { Gives (λ script. map numbered script) result
         (script_said game.now.stacks.seats steps.now at (parts_of 47 field.now)) }
 {
-    let players = game.stacks.seats;
+    let players = game.stacks.players();
     let (holes, boards) = cut_at(field, b'/');
-    if count_parts(holes, b'|') != players as usize {
+    if count_parts(holes, b'|') != players.number as usize {
         return Err(fault_at(LineFaultKind::SeatCount, at));
     }
-    let mut script = Script::with_room(alloc, players as usize + steps.len())?;
+    let mut script = Script::with_room(alloc, players.number as usize + steps.len())?;
     take_holes(&mut script, players, at, holes)?;
     take_steps(&mut script, at, boards, steps)?;
     Ok(script)
@@ -44,12 +44,11 @@ pub fn read_script(
 // The deals of the hole cards of all seats.
 fn take_holes(
     script: &mut Script,
-    players: u8,
+    players: PlayerCount,
     at: u64,
     holes: &[u8],
 ) -> Result<(), ReadError<LineFault>>
-    requires few { players ≤ 10 }
-    requires same { length (parts_of 124 holes.now) ≡ players }
+    requires { length (parts_of 124 holes.now) ≡ players.number }
     ensures ok { OnOk result (holes_after at (map numbered script.old) 1 (parts_of 124 holes.now)
         ≡ Ok (map numbered script.new)) }
     ensures err { IfErr result (λ stop.
@@ -58,7 +57,7 @@ fn take_holes(
     let mut seat = 1;
     let mut rest = Some(holes);
     while let Some((part, more)) = next_part(rest, b'|') {
-        take_hole(script, seat, at, part)?;
+        take_hole(script, Seat { number: seat }, at, part)?;
         seat += 1;
         rest = more;
     }
@@ -69,20 +68,17 @@ fn take_holes(
 #[tactic(auto, unfolding(crate::specs::Cards::hole_after))]
 fn take_hole(
     script: &mut Script,
-    seat: u8,
+    seat: Seat,
     at: u64,
     part: &[u8],
 ) -> Result<(), ReadError<LineFault>>
-    requires first { 1 ≤ seat }
-    requires last { seat ≤ 10 }
-    ensures ok { OnOk result (hole_after at (map numbered script.old) seat part.now
+    ensures ok { OnOk result (hole_after at (map numbered script.old) seat.number part.now
         ≡ Ok (map numbered script.new)) }
     ensures err { IfErr result (λ stop.
-        Fails stop (hole_after at (map numbered script.old) seat part.now)) }
+        Fails stop (hole_after at (map numbered script.old) seat.number part.now)) }
 {
     match read_hole(part) {
         Some(cards) => {
-            let seat = Seat { number: seat };
             script.push(Event {
                 at: 0,
                 kind: Kind::Hole { seat, cards },

@@ -13,7 +13,7 @@ pub fn setup_of(game: &Game) -> Setup
     ensures { IsSetupOf game.now result }
 {
     Setup {
-        code: code_of(game),
+        code: find_code(game),
         stacks: game.stacks,
         antes: SeatRow::new(game.stacks.seats),
         dead_antes: false,
@@ -21,20 +21,20 @@ pub fn setup_of(game: &Game) -> Setup
         bring_in: 0,
         small_bet: game.small_raise,
         big_bet: game.big_raise,
-        min_bet: least_bet(game),
+        min_bet: find_least_bet(game),
         rakes: RakeRow::none(),
     }
 }
 
 // The variant code of the game.
-fn code_of(game: &Game) -> Code
+fn find_code(game: &Game) -> Code
     ensures { result ≡ record_view.code_of game.now.no_limit }
 {
     if game.no_limit { Code::NT } else { Code::FT }
 }
 
 // The least bet of the game, in chips.
-fn least_bet(game: &Game) -> u64
+fn find_least_bet(game: &Game) -> u64
     ensures { result ≡ record_view.least_bet game.now }
 {
     if game.no_limit {
@@ -45,7 +45,7 @@ fn least_bet(game: &Game) -> u64
 }
 
 /// The rules of each hand of the game.
-pub fn rules_of(game: &Game) -> Rules
+pub fn make_rules(game: &Game) -> Rules
     ensures { result ≡ record_view.rules_of game.now }
 {
     Rules {

@@ -10,19 +10,22 @@ ghost use Rattle.acpc_reading.specs.Views.{nets_in};
 use crate::letters::fault_at;
 use crate::parts::next_part;
 use acpc_game::{LineFault, LineFaultKind, count_parts, cut_at, cut_first};
-use chip_ledger::MOST_AMOUNT;
-use first_fault::{ReadError, are_digits, read_digits};
+use chip_ledger::{MOST_AMOUNT, PlayerCount};
+use first_fault::{ReadError, is_all_digits, read_digits};
 use hand_canon::NetRow;
 
-/// The values field, which begins at this byte, of a hand with `players` players.
+/// The values field, which begins at this byte, of a hand with this number of players.
 #[tactic(auto, unfolding(crate::specs::Values::values_said))]
-pub fn read_values(players: u8, at: u64, text: &[u8]) -> Result<NetRow, ReadError<LineFault>>
-    requires few { players ≤ 10 }
-    requires near { at + length text.now < 2 ^ 64 - 1 }
-    ensures said { Gives nets_in result (values_said players at text.now) }
-    ensures seats { IfOk result (λ row. row.seats ≡ players) }
+pub fn read_values(
+    players: PlayerCount,
+    at: u64,
+    text: &[u8],
+) -> Result<NetRow, ReadError<LineFault>>
+    requires { at + length text.now < 2 ^ 64 - 1 }
+    ensures said { Gives nets_in result (values_said players.number at text.now) }
+    ensures seats { IfOk result (λ row. row.seats ≡ players.number) }
 {
-    if count_parts(text, b'|') != players as usize {
+    if count_parts(text, b'|') != players.number as usize {
         return Err(fault_at(LineFaultKind::SeatCount, at));
     }
     let mut nets = [0; 10];
@@ -37,7 +40,7 @@ pub fn read_values(players: u8, at: u64, text: &[u8]) -> Result<NetRow, ReadErro
         rest = more;
     }
     Ok(NetRow {
-        seats: players,
+        seats: players.number,
         nets,
     })
 }
@@ -82,7 +85,7 @@ fn read_fraction(
     match more {
         Some(_) => Err(fault_at(LineFaultKind::BadValue, at)),
         None => {
-            if !are_zeros(zeros) {
+            if !is_all_zeros(zeros) {
                 return Err(fault_at(LineFaultKind::BadValue, at));
             }
             read_whole(is_negative, at, digits)
@@ -91,7 +94,7 @@ fn read_fraction(
 }
 
 // Whether these are one or more zeros.
-fn are_zeros(text: &[u8]) -> bool
+fn is_all_zeros(text: &[u8]) -> bool
     ensures { result ≡ values.are_zeros text.now }
 {
     if text.is_empty() {
@@ -110,17 +113,17 @@ fn are_zeros(text: &[u8]) -> bool
 fn read_whole(is_negative: bool, at: u64, digits: &[u8]) -> Result<i64, ReadError<LineFault>>
     ensures { Gives (λ value. value) result (whole_said is_negative at digits.now) }
 {
-    if !are_digits(digits) {
+    if !is_all_digits(digits) {
         return Err(fault_at(LineFaultKind::BadValue, at));
     }
     match read_digits(digits, MOST_AMOUNT) {
-        Some(number) => Ok(signed(is_negative, number)),
+        Some(number) => Ok(apply_sign(is_negative, number)),
         None => Err(fault_at(LineFaultKind::AmountLimit, at)),
     }
 }
 
 // A number with its sign.
-fn signed(is_negative: bool, number: u64) -> i64
+fn apply_sign(is_negative: bool, number: u64) -> i64
     requires { number ≤ MOST_AMOUNT }
     ensures { result ≡ values.signed is_negative number }
 {

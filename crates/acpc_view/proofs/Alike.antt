@@ -8,7 +8,7 @@ use Rattle.std.proofs.lemmas.List.{length-map}
 use Rattle.std.proofs.lemmas.Map.Views.{any-filter_same}
 use Rattle.card_set.proofs.Tests.{false_true}
 use Rattle.card_set.specs.declared.card.Slot.{Slot}
-use Rattle.card_set.specs.Known.{is_unknown}
+use Rattle.card_set.specs.Known.{hides_card}
 use Rattle.card_set.specs.Spelling.{spelling}
 use Rattle.chip_ledger.specs.Seat.{seats_of}
 use Rattle.play_event.specs.declared.setup.Setup.{Setup}
@@ -109,7 +109,7 @@ module _ (trace : TraceCore) (viewer count : ℕ) where
 
 -- the text of a seat's hole cards
 abbrev hole_by : List Slot → List ℕ
-hole_by slots = if list_any is_unknown slots then [] else spelling slots
+hole_by slots = if list_any hides_card slots then [] else spelling slots
 
 module _ (trace : TraceCore) (viewer count : ℕ) (goes_on : is_at_end trace count ≡ false) where
   others_hidden : (seat : ℕ) (own : Bool) → (seat == viewer) ≡ own → sees_seat trace viewer count seat ≡ own

@@ -2,7 +2,7 @@
 use Rattle.std.specs.Prelude.{◌≡◌, ◌≤◌, ℕ, if◌then◌else◌, List, [], length, Option}
 use Rattle.std.specs.List.{list_any}
 use Rattle.card_set.specs.declared.card.Slot.{Slot}
-use Rattle.card_set.specs.Known.{is_unknown}
+use Rattle.card_set.specs.Known.{hides_card}
 use Rattle.card_set.specs.Spelling.{spelling}
 use Rattle.acpc_format.specs.Puts.{HaveFewChips}
 use Rattle.acpc_view.specs.View.{seen_places}
@@ -34,4 +34,4 @@ seen_by trace viewer count = seen_places (core_said trace) viewer count
 
 -- the text of hole cards: empty if one of them is unknown
 abbrev pub hole_of : List Slot → List ℕ
-hole_of slots = if list_any is_unknown slots then [] else spelling slots
+hole_of slots = if list_any hides_card slots then [] else spelling slots

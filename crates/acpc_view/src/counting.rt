@@ -10,29 +10,29 @@ ghost use Rattle.acpc_view.specs.Lengths.{IsLengthWithin, IsShort, hole_of, seen
 ghost use Rattle.acpc_view.specs.View.{seen_text, view_line, views_text};
 ghost use Rattle.play_event.specs.CanonScript.{dealt_slots, plain_move, plain_moves};
 ghost use Rattle.card_set.specs.Spelling.{spelling};
-ghost use Rattle.hand_canon.specs.Sound.{IsSound};
 ghost use Rattle.hand_canon.specs.TraceRows.{place_said};
 ghost use Rattle.play_event.specs.Past.{Raised};
 ghost use Rattle.play_event.specs.Played.{act_said, move_said};
 ghost use Rattle.play_event.specs.Said.{seat_named};
 
-use crate::seeing::{has_begun, sees_seat_of};
-use acpc_format::{add, has_board, has_unknown, is_dealt, is_spelled_hand, posted_chips};
+use crate::seeing::{has_reached_street, sees_seat_of};
+use acpc_format::{
+    add, can_write_hand_number, has_unknown, is_board_dealt, is_dealt, posted_chips,
+};
 use acpc_game::Game;
 use chip_ledger::Seat;
 use first_fault::Text;
-use hand_canon::{Play, Trace};
+use hand_canon::{SoundPlay, Trace};
 use play_event::{Act, Move, Place, Setup};
 
 /// The number of bytes of the lines that a seat saw of the play at a place of its file (from 0)
 /// under the game of that file.
 ///
-/// The play must be sound. No memory is allocated.
-pub fn views_len(game: &Game, play: &Play, place: u32, viewer: Seat) -> u64
-    requires { IsSound play.now }
+/// No memory is allocated.
+pub fn views_len(game: &Game, play: &SoundPlay<'_>, place: u32, viewer: Seat) -> u64
     ensures { result ≡ length (views_text game.now.no_limit viewer.number place play.now) }
 {
-    let moves = play.trace.moves.len();
+    let moves = play.play().trace.moves.len();
     let mut all: u64 = 0;
     for count in 0..moves {
         all += line_len(game.no_limit, play, place as usize, viewer, count);
@@ -41,11 +41,11 @@ pub fn views_len(game: &Game, play: &Play, place: u32, viewer: Seat) -> u64
 }
 
 // The number of bytes of one line.
-fn line_len(no_limit: bool, play: &Play, place: usize, viewer: Seat, count: usize) -> u64
-    requires sound { IsSound play.now }
-    requires there { count ≤ length play.now.trace.moves }
+fn line_len(no_limit: bool, play: &SoundPlay<'_>, place: usize, viewer: Seat, count: usize) -> u64
+    requires { count ≤ length play.now.trace.moves }
     ensures { IsLengthWithin 400000 (view_line no_limit viewer.number place play.now count) result }
 {
+    let play = play.play();
     let seen = Seen {
         trace: &play.trace,
         viewer,
@@ -63,7 +63,7 @@ fn hand_len(place: usize, name: &Option<Text>) -> u64
         return digits_len(place as u64);
     };
     let name = name.as_str().as_bytes();
-    if is_spelled_hand(name) {
+    if can_write_hand_number(name) {
         name.len() as u64
     } else {
         digits_len(place as u64)
@@ -122,8 +122,8 @@ impl Seen<'_> {
         ensures { result ≡ rounds.has_board
             (seen_by self.now.trace.now self.now.viewer.number self.now.count) street }
     {
-        has_begun(self.trace.moves.as_slice(), self.count, street)
-            && has_board(self.trace.places.as_slice(), street)
+        has_reached_street(self.trace.moves.as_slice(), self.count, street)
+            && is_board_dealt(self.trace.places.as_slice(), street)
     }
 
     // The number of bytes of the cards.

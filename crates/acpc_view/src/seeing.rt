@@ -16,7 +16,7 @@ use play_event::{Move, Place};
 use std::alloc::Global;
 
 /// The cards that a seat sees after the first `count` moves, each with its place.
-pub fn seen_places(
+pub fn find_seen_places(
     alloc: Global,
     trace: &Trace,
     viewer: Seat,
@@ -50,13 +50,13 @@ fn is_seen(trace: &Trace, viewer: Seat, count: usize, place: Place) -> bool
         (seat_named place.owner) place.street }
 {
     match place.owner {
-        None => has_begun(trace.moves.as_slice(), count, place.street),
+        None => has_reached_street(trace.moves.as_slice(), count, place.street),
         Some(owner) => sees_seat_of(trace, viewer, count, owner),
     }
 }
 
 /// The round of a street has begun before the move at an index, or there is no such move.
-pub fn has_begun(moves: &[Move], index: usize, street: u8) -> bool
+pub fn has_reached_street(moves: &[Move], index: usize, street: u8) -> bool
     ensures { result ≡ view.has_begun (map move_said moves.now) index street }
 {
     match moves.get(index) {

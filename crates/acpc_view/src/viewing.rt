@@ -2,21 +2,20 @@
 ghost use Rattle.std.specs.Prelude.{◌≡◌, ◌≤◌, ◌++◌, length, IfOk, OnOk};
 ghost use Rattle.acpc_format.specs.Puts.{HaveFewChips};
 ghost use Rattle.acpc_view.specs.View.{head_text, seen_text, view_line, views_text};
-ghost use Rattle.hand_canon.specs.Sound.{IsSound};
 
-use crate::seeing::seen_places;
+use crate::seeing::find_seen_places;
 use acpc_format::{push_betting, push_cards, push_hand};
 use acpc_game::Game;
 use card_set::{Memory, TryExtend, displayed};
 use chip_ledger::Seat;
 use first_fault::Text;
-use hand_canon::{Play, Trace};
+use hand_canon::{SoundPlay, Trace};
 use std::alloc::Global;
 
 /// The lines that a seat saw of the play at a place of its file (from 0) under the game of that
 /// file.
 ///
-/// The play must be sound. A seat that the hand does not have sees only hole cards that are shown.
+/// A seat that the hand does not have sees only hole cards that are shown.
 ///
 /// # Errors
 ///
@@ -24,11 +23,10 @@ use std::alloc::Global;
 pub fn views(
     alloc: Global,
     game: &Game,
-    play: &Play,
+    play: &SoundPlay<'_>,
     place: u32,
     viewer: Seat,
 ) -> Result<Vec<u8>, Memory>
-    requires { IsSound play.now }
     ensures { IfOk result (λ bytes. bytes.items
         ≡ views_text game.now.no_limit viewer.number place play.now) }
 {
@@ -40,16 +38,15 @@ pub fn views(
 fn lines(
     alloc: Global,
     no_limit: bool,
-    play: &Play,
+    play: &SoundPlay<'_>,
     place: usize,
     viewer: Seat,
 ) -> Result<Vec<u8>, Memory>
-    requires { IsSound play.now }
     ensures { IfOk result (λ bytes. bytes.items
         ≡ views_text no_limit viewer.number place play.now) }
 {
     let mut out = Vec::new(alloc);
-    let moves = play.trace.moves.len();
+    let moves = play.play().trace.moves.len();
     for count in 0..moves {
         push_view(alloc, &mut out, no_limit, play, place, viewer, count)?;
     }
@@ -63,19 +60,19 @@ fn push_view(
     alloc: Global,
     out: &mut Vec<u8>,
     no_limit: bool,
-    play: &Play,
+    play: &SoundPlay<'_>,
     place: usize,
     viewer: Seat,
     count: usize,
 ) -> Result<(), Memory>
-    requires sound { IsSound play.now }
-    requires there { count ≤ length play.now.trace.moves }
+    requires { count ≤ length play.now.trace.moves }
     ensures { OnOk result (out.new.items ≡ out.old.items
         ++ view_line no_limit viewer.number place play.now count) }
 {
-    push_head(alloc, out, viewer, place, &play.hand.notes.hand)?;
+    let seen = play.play();
+    push_head(alloc, out, viewer, place, &seen.hand.notes.hand)?;
     out.try_extend_from_slice(b":")?;
-    push_seen(alloc, out, no_limit, &play.trace, viewer, count)?;
+    push_seen(alloc, out, no_limit, &seen.trace, viewer, count)?;
     Ok(out.try_extend_from_slice(b"\n")?)
 }
 
@@ -113,9 +110,9 @@ fn push_seen(
     ensures { OnOk result (out.new.items
         ≡ out.old.items ++ seen_text no_limit trace.now viewer.number count) }
 {
-    let seen = seen_places(alloc, trace, viewer, count)?;
+    let seen = find_seen_places(alloc, trace, viewer, count)?;
     let made = &trace.moves.as_slice()[..count];
     push_betting(alloc, out, no_limit, &trace.setup, made, seen.as_slice())?;
     out.try_extend_from_slice(b":")?;
-    push_cards(out, seen.as_slice(), trace.setup.stacks.seats)
+    push_cards(out, seen.as_slice(), trace.setup.stacks.players())
 }

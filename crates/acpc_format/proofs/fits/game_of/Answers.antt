@@ -10,5 +10,5 @@ make_game-requires c =
     makes_game c.in-Some.no_limit setup c.requires (sym c.limit_of.ensures ∙ c.in-Some.is)
     (ap (λ (stacks : List ℕ). has_short_stack stacks (amounts_in setup.blinds)) (sym c.as_slice.ensures)
     ∙ ap (has_short_stack c.as_slice.result.now) (sym c.as_slice-2.ensures)
-    ∙ sym c.has_short_stack.ensures ∙ c.if-has_short_stack.false)
-    (sym c.is_sized_by_blind.ensures ∙ c.if-not-is_sized_by_blind.false)
+    ∙ sym c.has_unplayable_stack.ensures ∙ c.if-has_unplayable_stack.false)
+    (sym c.fits_greatest_blind.ensures ∙ c.if-not-fits_greatest_blind.false)

@@ -10,22 +10,22 @@ pub loop-index-preserved : goal.loop-index-preserved
 loop-index-preserved c =
     let inv = c.loop-index.invariant in
     let index = c.loop-index.index in
-    let numbers = c.args.numbers.now in
+    let numbers = c.args.players.now.amounts.now in
     let x = get_or numbers index 0 in
     let within : index < length numbers = omega (arith, c.loop-index-test.true) in
-    let few : x ≤ MOST_CHIPS = chips_within numbers index c.requires.few in
+    let few : x ≤ MOST_CHIPS = chips_within numbers index c.args.players.now.chips in
     record {
       ten = omega (arith, inv.ten, length-set c.loop-index.amounts index x);
       bounded = set_bounded c.loop-index.amounts index x MOST_AMOUNT inv.bounded (omega (arith, few));
       zeros = set_zeros c.loop-index.amounts index x inv.zeros;
       written =
-          take_more_set c.loop-index.amounts index x (omega (arith, inv.ten, within, c.requires.greatest))
+          take_more_set c.loop-index.amounts index x (omega (arith, inv.ten, within, c.args.players.now.few))
           ∙ ap (λ (front : List ℕ). front ++ x ∷ []) inv.written
           ∙ sym (take_more numbers index 0 within);
     }
 
 pub returns-clause-amounts : goal.returns-clause-amounts
 returns-clause-amounts c =
-    let numbers = c.args.numbers.now in
+    let numbers = c.args.players.now.amounts.now in
     let whole : c.loop-index.index ≡ length numbers = omega arith in
     rw (sym whole) (c.loop-index.invariant.written ∙ take_all c.loop-index.index numbers (omega (arith, whole)))

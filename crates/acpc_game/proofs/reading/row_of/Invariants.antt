@@ -8,5 +8,5 @@ invariant-loop-index l = record {
   ten : length l.amounts ≡ 10;
   bounded : (k : ℕ) → slice_index l.amounts k ≤ MOST_AMOUNT;
   zeros : (k : ℕ) → l.index ≤ k → slice_index l.amounts k ≡ 0;
-  written : take l.index l.amounts ≡ take l.index l.numbers;
+  written : take l.index l.amounts ≡ take l.index l.players.amounts.now;
 }

@@ -12,7 +12,7 @@ pub returns-in_err-name-clause-said : goal.returns-in_err-name-clause-said
 returns-in_err-name-clause-said c =
     let l = c.loop-part in
     let p = err_from_is_err_and c.from_residual.result c.from_residual.ensures.1 in
-    rw (p.1, p.2) (name_fails (take l.index l.names) (l.index + 1) l.place (parts_left 124 l.rest) (names_said c.args.players c.args.at c.args.text.now) c.in_err-name.field-0.0 c.in-Some.part.now (parts_left 124 c.in-Some.more) c.in-Some.ensures.parts c.in_err-name.ensures.said l.invariant.read)
+    rw (p.1, p.2) (name_fails (take l.index l.names) (l.index + 1) l.place (parts_left 124 l.rest) (names_said c.args.players.number c.args.at c.args.text.now) c.in_err-name.field-0.0 c.in-Some.part.now (parts_left 124 c.in-Some.more) c.in-Some.ensures.parts c.in_err-name.ensures.said l.invariant.read)
 
 pub loop-part-preserved : goal.loop-part-preserved
 loop-part-preserved c =
@@ -23,7 +23,7 @@ loop-part-preserved c =
     let parts = parts_left 124 c.in-Some.more in
     let all = parts_left 124 l.rest in
     let cut : all ≡ part ∷ parts = c.in-Some.ensures.parts in
-    let within : l.index < length l.names = omega (arith, inv.ten, inv.count, ap length cut, c.requires.few) in
+    let within : l.index < length l.names = omega (arith, inv.ten, inv.count, ap length cut, c.args.players.most) in
     let place : l.place + (length part + 1) ≡ l.place + length part + 1 = omega arith in
     record {
       ten = omega (arith, inv.ten, length-set l.names l.index name);
@@ -31,14 +31,14 @@ loop-part-preserved c =
       none = set_each None (λ k name. l.index + 1 ≤ k → name ≡ None) l.names l.index name within (λ k other late. inv.none k (omega (arith, late))) (λ late. absurd (omega (arith, late)));
       count = omega (arith, inv.count, ap length cut);
       place_is = omega (arith, inv.place_is, c.in-Some.ensures.len);
-      read = rw (take_more_set l.names l.index name within, place) (name_read (take l.index l.names) (l.index + 1) l.place all (names_said c.args.players c.args.at c.args.text.now) part parts name cut c.in_ok-name.ensures.said inv.read);
+      read = rw (take_more_set l.names l.index name within, place) (name_read (take l.index l.names) (l.index + 1) l.place all (names_said c.args.players.number c.args.at c.args.text.now) part parts name cut c.in_ok-name.ensures.said inv.read);
     }
 
 pub returns-clause-said : goal.returns-clause-said
 returns-clause-said c =
     let l = c.loop-part in
-    let whole : l.index ≡ c.args.players = omega (arith, l.invariant.count, ap length c.in_default.ensures.parts) in
-    subst (λ (count : ℕ). names_said c.args.players c.args.at c.args.text.now ≡ Ok (take count l.names)) whole (names_done (take l.index l.names) (l.index + 1) l.place (parts_left 124 l.rest) (names_said c.args.players c.args.at c.args.text.now) c.in_default.ensures.parts l.invariant.read)
+    let whole : l.index ≡ c.args.players.number = omega (arith, l.invariant.count, ap length c.in_default.ensures.parts) in
+    subst (λ (count : ℕ). names_said c.args.players.number c.args.at c.args.text.now ≡ Ok (take count l.names)) whole (names_done (take l.index l.names) (l.index + 1) l.place (parts_left 124 l.rest) (names_said c.args.players.number c.args.at c.args.text.now) c.in_default.ensures.parts l.invariant.read)
 
 pub returns-clause-each : goal.returns-clause-each
 returns-clause-each c seat first last =

@@ -10,9 +10,9 @@ invariant-loop-part l = record {
   ten : length l.names ≡ 10;
   each : (k : ℕ) → k < l.index → IfSome (slice_index_or l.names k None) (IsName (k + 1));
   none : (k : ℕ) → l.index ≤ k → slice_index_or l.names k None ≡ None;
-  count : l.index + length (parts_left 124 l.rest) ≡ l.players;
+  count : l.index + length (parts_left 124 l.rest) ≡ l.fn.players.number;
   place_is : l.place + len_left l.rest ≡ l.at + 1 + length l.fn.text;
-  read : names_after (take l.index l.names) (l.index + 1) l.place (parts_left 124 l.rest) ≡ names_said l.players l.at l.fn.text;
+  read : names_after (take l.index l.names) (l.index + 1) l.place (parts_left 124 l.rest) ≡ names_said l.fn.players.number l.at l.fn.text;
 }
 
 abbrev pub decreases-loop-part : goal.decreases-loop-part

@@ -4,10 +4,10 @@ use Rattle.acpc_reading.proofs.record.record_of.Goals as goal
 
 pub returns-clause-game : goal.returns-clause-game
 returns-clause-game c =
-    let hand : Record = record { setup = c.setup_of.result; rules = c.rules_of.result; script = c.args.script; stated = c.stating.result; notes = c.noting.result } in
+    let hand : Record = record { setup = c.setup_of.result; rules = c.make_rules.result; script = c.args.script; stated = c.stating.result; notes = c.noting.result } in
     record {
       setup = c.setup_of.ensures;
-      rules = c.rules_of.ensures;
+      rules = c.make_rules.ensures;
       stated = c.stating.ensures.alone;
       notes = c.noting.ensures.alone;
       sound =

@@ -9,7 +9,7 @@ use Rattle.acpc_reading.proofs.script.take_holes.Given as goal
 abbrev pub invariant-loop-part : goal.invariant-loop-part
 invariant-loop-part l = record {
   first : 1 ≤ l.seat;
-  count : l.seat + length (parts_left 124 l.rest) ≡ l.players + 1;
+  count : l.seat + length (parts_left 124 l.rest) ≡ l.fn.players.number + 1;
   read : holes_after l.at (map numbered l.script) l.seat (parts_left 124 l.rest) ≡ holes_after l.at (map numbered l.fn.script) 1 (parts_of 124 l.fn.holes);
 }
 

@@ -9,9 +9,9 @@ abbrev pub invariant-loop-part : goal.invariant-loop-part
 invariant-loop-part l = record {
   ten : length l.nets ≡ 10;
   zeros : (k : ℕ) → l.index ≤ k → slice_index_or l.nets k (pos 0) ≡ pos 0;
-  count : l.index + length (parts_left 124 l.rest) ≡ l.players;
+  count : l.index + length (parts_left 124 l.rest) ≡ l.fn.players.number;
   place_is : l.place + len_left l.rest ≡ l.at + 1 + length l.fn.text;
-  read : values_after (take l.index l.nets) l.place (parts_left 124 l.rest) ≡ values_said l.players l.at l.fn.text;
+  read : values_after (take l.index l.nets) l.place (parts_left 124 l.rest) ≡ values_said l.fn.players.number l.at l.fn.text;
 }
 
 abbrev pub decreases-loop-part : goal.decreases-loop-part

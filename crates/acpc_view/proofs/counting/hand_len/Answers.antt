@@ -11,19 +11,19 @@ returns-in_default c =
       few = omega arith;
     }
 
-pub returns-then-is_spelled_hand : goal.returns-then-is_spelled_hand
-returns-then-is_spelled_hand c =
+pub returns-then-can_write_hand_number : goal.returns-then-can_write_hand_number
+returns-then-can_write_hand_number c =
     record {
       value =
-          hand_spelled c.args.place c.args.name.now c.as_bytes-name.result.now (cc (c.in-Some.is, c.as_str.ensures, c.as_bytes-name.ensures.value)) (sym c.is_spelled_hand.ensures ∙ c.if-is_spelled_hand.true);
-      few = hand_few c.as_bytes-name.result.now (sym c.is_spelled_hand.ensures ∙ c.if-is_spelled_hand.true);
+          hand_spelled c.args.place c.args.name.now c.as_bytes-name.result.now (cc (c.in-Some.is, c.as_str.ensures, c.as_bytes-name.ensures.value)) (sym c.can_write_hand_number.ensures ∙ c.if-can_write_hand_number.true);
+      few = hand_few c.as_bytes-name.result.now (sym c.can_write_hand_number.ensures ∙ c.if-can_write_hand_number.true);
     }
 
-pub returns-else-is_spelled_hand : goal.returns-else-is_spelled_hand
-returns-else-is_spelled_hand c =
+pub returns-else-can_write_hand_number : goal.returns-else-can_write_hand_number
+returns-else-can_write_hand_number c =
     record {
       value =
-          c.digits_len-else-is_spelled_hand.ensures.value
-          ∙ hand_unspelled c.args.place c.args.name.now c.as_bytes-name.result.now (cc (c.in-Some.is, c.as_str.ensures, c.as_bytes-name.ensures.value)) (sym c.is_spelled_hand.ensures ∙ c.if-is_spelled_hand.false);
+          c.digits_len-else-can_write_hand_number.ensures.value
+          ∙ hand_unspelled c.args.place c.args.name.now c.as_bytes-name.result.now (cc (c.in-Some.is, c.as_str.ensures, c.as_bytes-name.ensures.value)) (sym c.can_write_hand_number.ensures ∙ c.if-can_write_hand_number.false);
       few = omega arith;
     }

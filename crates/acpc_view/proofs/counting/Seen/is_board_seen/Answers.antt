@@ -9,13 +9,13 @@ use Rattle.acpc_view.specs.View.{has_begun}
 use Rattle.acpc_view.proofs.LineLengths.{board_seen_else, board_seen_then}
 use Rattle.acpc_view.proofs.counting.Seen.is_board_seen.Goals as goal
 
-pub returns-then-has_begun : goal.returns-then-has_begun
-returns-then-has_begun c =
-    board_seen_then (core_said c.args.self.now.trace.now) c.args.self.now.viewer.number c.args.self.now.count c.args.street c.has_board.result
-    (ap (λ (moves : List Move). has_begun (map move_said moves) c.args.self.now.count c.args.street) (sym c.as_slice.ensures) ∙ sym c.has_begun.ensures ∙ c.if-has_begun.true)
-    (c.has_board.ensures ∙ ap (λ (places : List Place). has_board (map place_said places) c.args.street) c.as_slice-then-has_begun.ensures)
+pub returns-then-has_reached_street : goal.returns-then-has_reached_street
+returns-then-has_reached_street c =
+    board_seen_then (core_said c.args.self.now.trace.now) c.args.self.now.viewer.number c.args.self.now.count c.args.street c.is_board_dealt.result
+    (ap (λ (moves : List Move). has_begun (map move_said moves) c.args.self.now.count c.args.street) (sym c.as_slice.ensures) ∙ sym c.has_reached_street.ensures ∙ c.if-has_reached_street.true)
+    (c.is_board_dealt.ensures ∙ ap (λ (places : List Place). has_board (map place_said places) c.args.street) c.as_slice-then-has_reached_street.ensures)
 
-pub returns-else-has_begun : goal.returns-else-has_begun
-returns-else-has_begun c =
-    c.if-has_begun.false ∙ board_seen_else (core_said c.args.self.now.trace.now) c.args.self.now.viewer.number c.args.self.now.count c.args.street
-    (ap (λ (moves : List Move). has_begun (map move_said moves) c.args.self.now.count c.args.street) (sym c.as_slice.ensures) ∙ sym c.has_begun.ensures ∙ c.if-has_begun.false)
+pub returns-else-has_reached_street : goal.returns-else-has_reached_street
+returns-else-has_reached_street c =
+    c.if-has_reached_street.false ∙ board_seen_else (core_said c.args.self.now.trace.now) c.args.self.now.viewer.number c.args.self.now.count c.args.street
+    (ap (λ (moves : List Move). has_begun (map move_said moves) c.args.self.now.count c.args.street) (sym c.as_slice.ensures) ∙ sym c.has_reached_street.ensures ∙ c.if-has_reached_street.false)

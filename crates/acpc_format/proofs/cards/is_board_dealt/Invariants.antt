@@ -1,7 +1,7 @@
 use Rattle.std.proofs.Common.{◌≡◌, drop, map}
 use Rattle.hand_canon.specs.TraceRows.{place_said}
 use Rattle.acpc_format.specs.Rounds.{has_board}
-use Rattle.acpc_format.proofs.cards.has_board.Given as goal
+use Rattle.acpc_format.proofs.cards.is_board_dealt.Given as goal
 
 -- the places that are left decide
 abbrev pub invariant-loop-place : goal.invariant-loop-place

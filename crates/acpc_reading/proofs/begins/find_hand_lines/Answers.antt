@@ -2,7 +2,7 @@
 use Rattle.std.proofs.Common.{◌+◌, ◌++◌, List, ℕ, ap, append-nil, arith, sym, ◌∙◌}
 use Rattle.acpc_game.specs.Parts.{lines_of}
 use Rattle.acpc_reading.specs.Begins.{hand_lines_from}
-use Rattle.acpc_reading.proofs.begins.hand_lines.Goals as goal
+use Rattle.acpc_reading.proofs.begins.find_hand_lines.Goals as goal
 
 pub loop-line-preserved : goal.loop-line-preserved
 loop-line-preserved c =

@@ -1,7 +1,7 @@
 use Rattle.std.proofs.Common.{◌≡◌, ◌+◌, ◌≤◌, ◌++◌, length}
 use Rattle.acpc_game.specs.Parts.{lines_of}
 use Rattle.acpc_reading.specs.Begins.{hand_lines, hand_lines_from}
-use Rattle.acpc_reading.proofs.begins.hand_lines.Given as goal
+use Rattle.acpc_reading.proofs.begins.find_hand_lines.Given as goal
 
 -- the numbers so far and those of the lines that are left are all of them
 abbrev pub invariant-loop-line : goal.invariant-loop-line

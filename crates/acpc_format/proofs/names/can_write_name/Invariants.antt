@@ -1,7 +1,7 @@
 use Rattle.std.proofs.Common.{◌≡◌, drop}
 use Rattle.std.specs.List.{list_all}
 use Rattle.acpc_format.specs.Names.{may_stand}
-use Rattle.acpc_format.proofs.names.is_spelled_name.Given as goal
+use Rattle.acpc_format.proofs.names.can_write_name.Given as goal
 
 -- the signs that are left decide
 abbrev pub invariant-loop-sign : goal.invariant-loop-sign

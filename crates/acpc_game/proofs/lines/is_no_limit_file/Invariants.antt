@@ -1,7 +1,7 @@
 use Rattle.std.proofs.Common.{◌≡◌, length}
 use Rattle.acpc_game.specs.Parts.{lines_of}
 use Rattle.acpc_game.specs.GameEntries.{says_no_limit}
-use Rattle.acpc_game.proofs.lines.says_no_limit.Given as goal
+use Rattle.acpc_game.proofs.lines.is_no_limit_file.Given as goal
 
 -- no line so far says it
 abbrev pub invariant-loop-line : goal.invariant-loop-line

@@ -1,5 +1,0 @@
-use Rattle.std.proofs.Common.{length}
-use Rattle.acpc_game.proofs.supported.+has_short_stack.Given as goal
-
-abbrev pub decreases-has_short_stack : goal.decreases-has_short_stack
-decreases-has_short_stack l = length l.stacks.now
