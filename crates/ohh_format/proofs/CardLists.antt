@@ -6,7 +6,7 @@ use Rattle.std.proofs.lemmas.List.{length-map}
 use Rattle.serde_json.specs.Data.{Data, string}
 use Rattle.serde_json.specs.View.{items_of}
 use Rattle.card_set.proofs.Spelled.{slot_spelled-card, slot_spelled-unknown}
-use Rattle.card_set.specs.Known.{is_unknown, known_cards}
+use Rattle.card_set.specs.Known.{hides_card, known_among}
 use Rattle.card_set.specs.Spelling.{slot_spelling}
 use Rattle.card_set.specs.declared.card.Slot.{Slot}
 use Rattle.card_set.specs.declared.card.Slot.TheVariants as slots
@@ -38,7 +38,7 @@ unfolding each_from
 slots_each path n [] = refl
 slots_each path n (slot ∷ rest) = rw (slot_again (path (n - 1)) slot, slots_each path (n + 1) rest) refl
 
-known_each : (path : ℕ → Path) (n : ℕ) (cards : List Slot) → list_any is_unknown cards ≡ false → each_from (λ n. card_said (path (n - 1))) n (card_texts cards) ≡ Ok (known_cards cards)
+known_each : (path : ℕ → Path) (n : ℕ) (cards : List Slot) → list_any hides_card cards ≡ false → each_from (λ n. card_said (path (n - 1))) n (card_texts cards) ≡ Ok (known_among cards)
 unfolding each_from card_said
 known_each path n [] known = refl
 known_each path n (slots.Unknown ∷ rest) known = absurd (true≢false known)
@@ -56,6 +56,6 @@ unfolding slots_said
 slots_again path cards few = rw (few_again path cards few) (slots_each (λ index. card_path path index) 1 cards)
 
 -- at most seven known cards
-pub cards_again : (path : Path) (cards : List Slot) → length cards ≤ 7 → list_any is_unknown cards ≡ false → cards_said path (cards_tree cards) ≡ Ok (known_cards cards)
+pub cards_again : (path : Path) (cards : List Slot) → length cards ≤ 7 → list_any hides_card cards ≡ false → cards_said path (cards_tree cards) ≡ Ok (known_among cards)
 unfolding cards_said
 cards_again path cards few known = rw (few_again path cards few) (known_each (λ index. card_path path index) 1 cards known)

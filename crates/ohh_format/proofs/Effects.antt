@@ -16,7 +16,7 @@ use Rattle.hand_canon.specs.declared.trace.Trace.{Trace}
 use Rattle.ohh_members.specs.declared.dialect.Dialect.{Dialect}
 use Rattle.ohh_members.specs.declared.words.Word.{Word}
 use Rattle.ohh_members.specs.declared.words.Word.TheVariants as words
-use Rattle.ohh_writing.specs.Actions.{PlainAction, act_written, alone, ante_post, big_blind_seat, blind_post, call_written, deal_written, deals, has_known, move_written, moves_written, posts, raise_amount, raise_written, showing, showings, small_blind_seat, straddle_post, with_cards, with_chips}
+use Rattle.ohh_writing.specs.Actions.{PlainAction, act_written, alone, ante_post, blind_post, call_written, deal_written, deals, has_known_card, move_written, moves_written, posts, raise_amount, raise_written, seat_of_big_blind, seat_of_small_blind, showing, showings, straddle_post, with_cards, with_chips}
 use Rattle.ohh_rounds.specs.declared.post.PostKind.{PostKind}
 use Rattle.ohh_rounds.specs.declared.post.PostKind.TheVariants as kinds
 
@@ -75,8 +75,8 @@ straddle_effect setup seat = if nat_lt 2 seat && nat_lt 0 (amount_of setup.blind
 abbrev pub post_effects : Setup → List ActionEffect
 post_effects setup =
     flat_map (ante_effect setup) (all_seats setup)
-    ++ (blind_effect setup kinds.SmallBlind (small_blind_seat setup)
-    ∷ blind_effect setup kinds.BigBlind (big_blind_seat setup)
+    ++ (blind_effect setup kinds.SmallBlind (seat_of_small_blind setup)
+    ∷ blind_effect setup kinds.BigBlind (seat_of_big_blind setup)
     ∷ flat_map (straddle_effect setup) (all_seats setup))
 
 ante_is : (setup : Setup) (seat : ℕ) → ante_post setup seat ≡ map action_of (ante_effect setup seat)
@@ -96,8 +96,8 @@ straddle_is setup seat = by_blind (nat_lt 2 seat && nat_lt 0 (amount_of setup.bl
 
 pub posts_are : (setup : Setup) → posts setup ≡ map action_of (post_effects setup)
 posts_are setup =
-    let blinds : List ActionEffect = blind_effect setup kinds.SmallBlind (small_blind_seat setup) ∷ blind_effect setup kinds.BigBlind (big_blind_seat setup) ∷ flat_map (straddle_effect setup) (all_seats setup) in
-    ap₂ (λ (xs ys : List PlainAction). xs ++ (blind_post setup words.PostSmallBlind (small_blind_seat setup) ∷ blind_post setup words.PostBigBlind (big_blind_seat setup) ∷ ys))
+    let blinds : List ActionEffect = blind_effect setup kinds.SmallBlind (seat_of_small_blind setup) ∷ blind_effect setup kinds.BigBlind (seat_of_big_blind setup) ∷ flat_map (straddle_effect setup) (all_seats setup) in
+    ap₂ (λ (xs ys : List PlainAction). xs ++ (blind_post setup words.PostSmallBlind (seat_of_small_blind setup) ∷ blind_post setup words.PostBigBlind (seat_of_big_blind setup) ∷ ys))
     (flat_effects (ante_post setup) (ante_effect setup) (ante_is setup) (all_seats setup))
     (flat_effects (straddle_post setup) (straddle_effect setup) (straddle_is setup) (all_seats setup))
     ∙ sym (map-append action_of (flat_map (ante_effect setup) (all_seats setup)) blinds)
@@ -105,13 +105,13 @@ posts_are setup =
 -- ---- deals
 
 abbrev pub deal_effect : List TracedPlace → ℕ → List ActionEffect
-deal_effect placed seat = if has_known (dealt_slots placed (Some seat) 1) then Deals seat (dealt_slots placed (Some seat) 1) ∷ [] else []
+deal_effect placed seat = if has_known_card (dealt_slots placed (Some seat) 1) then Deals seat (dealt_slots placed (Some seat) 1) ∷ [] else []
 
 abbrev pub deal_effects : List TracedPlace → List ℕ → List ActionEffect
 deal_effects placed seats = flat_map (deal_effect placed) seats
 
 deal_is : (placed : List TracedPlace) (seat : ℕ) → deal_written seat (dealt_slots placed (Some seat) 1) ≡ map action_of (deal_effect placed seat)
-deal_is placed seat = by_known (dealt_slots placed (Some seat) 1) (has_known (dealt_slots placed (Some seat) 1))
+deal_is placed seat = by_known (dealt_slots placed (Some seat) 1) (has_known_card (dealt_slots placed (Some seat) 1))
   where
     by_known : (cards : List Slot) (some : Bool) → (if some then with_cards words.DealtCards seat cards ∷ [] else []) ≡ map action_of (if some then Deals seat cards ∷ [] else [])
     by_known cards true = refl

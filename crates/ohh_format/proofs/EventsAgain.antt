@@ -7,7 +7,7 @@ use Rattle.std.proofs.lemmas.Bool.{eq-eqb, ne_eqb}
 use Rattle.std.proofs.lemmas.Grind.{flat_map-append}
 use Rattle.std.proofs.lemmas.List.{append-nil}
 use Rattle.std.proofs.lemmas.List.Folds.{find-append, list_any-append}
-use Rattle.card_set.specs.Known.{known_cards}
+use Rattle.card_set.specs.Known.{known_among}
 use Rattle.card_set.specs.declared.card.Slot.{Slot}
 use Rattle.card_set.specs.declared.card.Slot.TheVariants as slots
 use Rattle.play_event.specs.CanonScript.{deal_said}
@@ -15,11 +15,11 @@ use Rattle.play_event.specs.declared.event.Spelled.TheVariants as spelled
 use Rattle.play_event.specs.Said as said
 use Rattle.play_event.specs.Said.{Numbered, Said}
 use Rattle.ohh_members.specs.declared.dialect.Dialect.{Dialect}
-use Rattle.ohh_writing.specs.Actions.{has_known}
+use Rattle.ohh_writing.specs.Actions.{has_known_card}
 use Rattle.ohh_rounds.specs.Posts.{PlainPost}
 use Rattle.ohh_rounds.specs.Actions.{raise_by}
 use Rattle.ohh_rounds.specs.Play.{event_in, events_in, hole_cards, hole_deal, post_in, posts_in}
-use Rattle.ohh_rounds.specs.Steps.{PlainStep, dealt_in, dealt_to, has_folded, is_deal_to, is_fold_of}
+use Rattle.ohh_rounds.specs.Steps.{PlainStep, dealt_in, dealt_to, is_deal_to, is_fold_of, is_folded}
 use Rattle.ohh_format.specs.Again.{numbered_from}
 use Rattle.ohh_format.proofs.Effects.{ActionEffect, Bets, Calls, Checks, Deals, Folds, Mucks, Posts, Raises, Shows}
 use Rattle.ohh_format.proofs.EffectRounds.{EffectRound, steps_after}
@@ -66,7 +66,7 @@ event_of dialect (Checks seat) = said.Call (Some seat) (Some 0) ∷ []
 event_of dialect (Calls seat amount left) = said.Call (Some seat) (Some amount) ∷ []
 event_of dialect (Bets seat amount left) = said.Raise (Some seat) (spelled.Added amount) ∷ []
 event_of dialect (Raises seat amount left) = said.Raise (Some seat) (raise_by dialect amount) ∷ []
-event_of dialect (Shows seat cards) = said.Show seat (known_cards cards) ∷ []
+event_of dialect (Shows seat cards) = said.Show seat (known_among cards) ∷ []
 event_of dialect (Mucks seat) = said.Muck seat ∷ []
 
 -- events with the number of one action
@@ -103,7 +103,7 @@ events_of_steps dialect n round index (effect ∷ rest) =
 -- the event of a board, if it was dealt
 abbrev pub board_events : List Slot → List Numbered
 board_events [] = []
-board_events (slot ∷ rest) = (0, said.Board (known_cards (slot ∷ rest))) ∷ []
+board_events (slot ∷ rest) = (0, said.Board (known_among (slot ∷ rest))) ∷ []
 
 abbrev pub round_events : Dialect → ℕ → List EffectRound → List Numbered
 round_events dialect n [] = []
@@ -246,11 +246,11 @@ no_fold dialect n round index seat (Raises other amount left) is = refl
 no_fold dialect n round index seat (Shows other cards) is = refl
 no_fold dialect n round index seat (Mucks other) is = refl
 
-pub no_folds : (dialect : Dialect) (n round index seat : ℕ) (effects : List ActionEffect) → AllByRecursion (IsNoFold seat) effects → has_folded seat (steps_of dialect n round index effects) ≡ false
+pub no_folds : (dialect : Dialect) (n round index seat : ℕ) (effects : List ActionEffect) → AllByRecursion (IsNoFold seat) effects → is_folded seat (steps_of dialect n round index effects) ≡ false
 no_folds dialect n round index seat [] all = refl
 no_folds dialect n round index seat (effect ∷ rest) all = rw (no_fold dialect n round index seat effect all.0) (no_folds dialect (n + 1) round (index + 1) seat rest all.1)
 
-pub folded_both : (seat : ℕ) (some more : List PlainStep) → has_folded seat some ≡ false → has_folded seat more ≡ false → has_folded seat (some ++ more) ≡ false
+pub folded_both : (seat : ℕ) (some more : List PlainStep) → is_folded seat some ≡ false → is_folded seat more ≡ false → is_folded seat (some ++ more) ≡ false
 folded_both seat some more one other = list_any-append (λ (step : PlainStep). is_fold_of seat step.effect) some more ∙ rw (one, other) refl
 
 -- ---- deals
@@ -299,7 +299,7 @@ pub no_deal_board : (seat : ℕ) (cards : List Slot) → NoDeal seat (board_step
 no_deal_board seat [] = record { cards = refl; none = refl }
 no_deal_board seat (slot ∷ rest) = record { cards = refl; none = refl }
 
-all_hidden : (cards : List Slot) → has_known cards ≡ false → replicate (length cards) slots.Unknown ≡ cards
+all_hidden : (cards : List Slot) → has_known_card cards ≡ false → replicate (length cards) slots.Unknown ≡ cards
 all_hidden [] none = refl
 all_hidden (slots.Known card ∷ rest) none = absurd (true≢false none)
 all_hidden (slots.Unknown ∷ rest) none = ap (λ (l : List Slot). slots.Unknown ∷ l) (all_hidden rest none)
@@ -310,12 +310,12 @@ deal_there seat (slot ∷ rest) some = refl
 
 module _ (dialect : Dialect) (count : ℕ) (some : 1 ≤ count) (cards : ℕ → List Slot) where
   abbrev pub deal_of : ℕ → List ActionEffect
-  deal_of seat = if has_known (cards seat) then Deals seat (cards seat) ∷ [] else []
+  deal_of seat = if has_known_card (cards seat) then Deals seat (cards seat) ∷ [] else []
 
   -- no seat before the first is dealt anything
   no_later : (n index seat first many : ℕ) → seat < first → NoDeal seat (steps_of dialect n 0 index (flat_map deal_of (range_with_len first many)))
   no_later n index seat first zero before = record { cards = refl; none = refl }
-  no_later n index seat first (suc many) before = by_known (has_known (cards first)) (λ k i. no_later k i seat (first + 1) many (omega (arith, before)))
+  no_later n index seat first (suc many) before = by_known (has_known_card (cards first)) (λ k i. no_later k i seat (first + 1) many (omega (arith, before)))
     where
       by_known : (known : Bool) → ((k i : ℕ) → NoDeal seat (steps_of dialect k 0 i (flat_map deal_of (range_with_len (first + 1) many))))
           → NoDeal seat (steps_of dialect n 0 index ((if known then Deals first (cards first) ∷ [] else []) ++ flat_map deal_of (range_with_len (first + 1) many)))
@@ -332,7 +332,7 @@ module _ (dialect : Dialect) (count : ℕ) (some : 1 ≤ count) (cards : ℕ →
       → map (hole_deal count all) (range_with_len first many) ≡ numbered_from n (flat_map (λ seat. deal_said seat (cards seat)) (range_with_len first many))
   holes_again n index first zero all front back is whole before behind = refl
   holes_again n index first (suc many) all front back is whole before behind =
-      by_known (has_known (cards first)) refl is (λ k i l same none. holes_again k i (first + 1) many all l back same (λ seat from within. whole seat (omega (arith, from)) (omega (arith, within))) none behind)
+      by_known (has_known_card (cards first)) refl is (λ k i l same none. holes_again k i (first + 1) many all l back same (λ seat from within. whole seat (omega (arith, from)) (omega (arith, within))) none behind)
     where
       rest_said : List Said
       rest_said = flat_map (λ seat. deal_said seat (cards seat)) (range_with_len (first + 1) many)
@@ -343,7 +343,7 @@ module _ (dialect : Dialect) (count : ℕ) (some : 1 ≤ count) (cards : ℕ →
       whole_row : (l : List Slot) → length l ≡ count → hole_cards count l ≡ l
       whole_row l long = let none : count - length l ≡ 0 = omega (arith, long) in ap (λ (k : ℕ). l ++ replicate k slots.Unknown) none ∙ append-nil l
 
-      by_known : (known : Bool) → has_known (cards first) ≡ known
+      by_known : (known : Bool) → has_known_card (cards first) ≡ known
           → all ≡ front ++ (steps_of dialect n 0 index ((if known then Deals first (cards first) ∷ [] else []) ++ flat_map deal_of (range_with_len (first + 1) many)) ++ back)
           → ((k i : ℕ) (l : List PlainStep) → all ≡ l ++ (steps_of dialect k 0 i (flat_map deal_of (range_with_len (first + 1) many)) ++ back) → ((seat : ℕ) → first + 1 ≤ seat → NoDeal seat l)
           → map (hole_deal count all) (range_with_len (first + 1) many) ≡ numbered_from k rest_said)

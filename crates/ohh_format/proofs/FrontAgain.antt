@@ -11,15 +11,15 @@ use Rattle.hand_canon.specs.declared.notes.Notes.{Notes}
 use Rattle.play_event.specs.declared.code.Code.{Code}
 use Rattle.play_event.specs.declared.code.Code.TheVariants as games
 use Rattle.play_event.specs.Seats.{all_seats}
-use Rattle.play_event.specs.Streets.{is_stud, limit_of}
-use Rattle.play_event.specs.ValidSetup.{IsSize, IsSizeWhere, IsValid, is_fixed}
+use Rattle.play_event.specs.Streets.{is_stud_game, limit_of}
+use Rattle.play_event.specs.ValidSetup.{IsSize, IsSizeWhere, IsValid, is_fixed_limit}
 use Rattle.play_event.specs.declared.setup.Setup.{Setup}
 use Rattle.ohh_members.specs.declared.blinds.Blinds.{Blinds}
 use Rattle.ohh_members.specs.declared.fault.Path.TheVariants as paths
 use Rattle.ohh_members.specs.Blinds.{blinds_said, fitting}
 use Rattle.ohh_members.specs.Header.{ids_of, stacks_of}
-use Rattle.ohh_members.specs.Values.{field, number_said, required}
-use Rattle.ohh_writing.specs.Actions.{big_blind_seat, small_blind_seat}
+use Rattle.ohh_members.specs.Values.{member_at, number_said, required_value}
+use Rattle.ohh_writing.specs.Actions.{seat_of_big_blind, seat_of_small_blind}
 use Rattle.ohh_writing.specs.Games.{is_spelled_game}
 use Rattle.ohh_writing.specs.Spelled.{big_blind, greatest_ante, has_no_ante, has_spelled_antes, has_spelled_blinds, has_spelled_sizes, has_spelled_straddles, has_two_blinds, is_covered_straddle, is_whole_ante}
 use Rattle.ohh_writing.specs.Tree.{whole}
@@ -42,13 +42,13 @@ pub record IsSpelledSetup (setup : Setup) : Type 0 where
 
 -- the blinds of a setup, as they are named
 abbrev pub blinds_of : Setup → Blinds
-blinds_of setup = record { small = amount_of setup.blinds (small_blind_seat setup); big = big_blind setup }
+blinds_of setup = record { small = amount_of setup.blinds (seat_of_small_blind setup); big = big_blind setup }
 
 greatest_few : (f : ℕ → ℕ) (most first many : ℕ) → ((number : ℕ) → f number ≤ most) → greatest (map f (range_with_len first many)) ≤ most
 greatest_few f most first zero each = omega arith
 greatest_few f most first (suc many) each = omega (arith, each first, greatest_few f most (first + 1) many each)
 
-pub no_stud : (code : Code) → is_spelled_game code ≡ true → is_stud code ≡ false
+pub no_stud : (code : Code) → is_spelled_game code ≡ true → is_stud_game code ≡ false
 no_stud games.FT is = refl
 no_stud games.NT is = refl
 no_stud games.PO is = refl
@@ -107,10 +107,10 @@ module _ (setup : Setup) (valid : IsValid setup) (is : IsSpelledSetup setup) whe
   blinds_order : (1 ≤ (blinds_of setup).small) × ((blinds_of setup).small ≤ (blinds_of setup).big)
   blinds_order = small_is (count == 2) refl
 
-  sizes_fixed : (fixed : Bool) → is_fixed (limit_of setup.code) ≡ fixed → (if fixed then (setup.small_bet == big_blind setup) && (setup.big_bet == 2 * big_blind setup) else setup.min_bet == big_blind setup) ≡ true
+  sizes_fixed : (fixed : Bool) → is_fixed_limit (limit_of setup.code) ≡ fixed → (if fixed then (setup.small_bet == big_blind setup) && (setup.big_bet == 2 * big_blind setup) else setup.min_bet == big_blind setup) ≡ true
   sizes_fixed fixed e = ap (λ (b : Bool). if b then (setup.small_bet == big_blind setup) && (setup.big_bet == 2 * big_blind setup) else setup.min_bet == big_blind setup) (sym e) ∙ is.sizes
 
-  fixed_few : (fixed : Bool) → is_fixed (limit_of setup.code) ≡ fixed → (fixed && nat_lt MOST_CHIPS (2 * big_blind setup)) ≡ false
+  fixed_few : (fixed : Bool) → is_fixed_limit (limit_of setup.code) ≡ fixed → (fixed && nat_lt MOST_CHIPS (2 * big_blind setup)) ≡ false
   fixed_few false e = refl
   fixed_few true e =
       let tests = and_parts (setup.small_bet == big_blind setup) (setup.big_bet == 2 * big_blind setup) (sizes_fixed true e) in
@@ -120,12 +120,12 @@ module _ (setup : Setup) (valid : IsValid setup) (is : IsSpelledSetup setup) whe
 
   fitting_again : fitting setup.code (blinds_of setup).small (blinds_of setup).big ≡ Ok (blinds_of setup)
   unfolding fitting
-  fitting_again = rw (le-ltb (blinds_of setup).big (blinds_of setup).small blinds_order.1, fixed_few (is_fixed (limit_of setup.code)) refl) refl
+  fitting_again = rw (le-ltb (blinds_of setup).big (blinds_of setup).small blinds_order.1, fixed_few (is_fixed_limit (limit_of setup.code)) refl) refl
 
   -- the blinds
-  pub blinds_again : (ohh : Data) → field paths.AnteAmount ohh ≡ Some (whole (greatest_ante setup)) → field paths.SmallBlindAmount ohh ≡ Some (whole (blinds_of setup).small) → field paths.BigBlindAmount ohh ≡ Some (whole (blinds_of setup).big)
+  pub blinds_again : (ohh : Data) → member_at paths.AnteAmount ohh ≡ Some (whole (greatest_ante setup)) → member_at paths.SmallBlindAmount ohh ≡ Some (whole (blinds_of setup).small) → member_at paths.BigBlindAmount ohh ≡ Some (whole (blinds_of setup).big)
       → blinds_said setup.code ohh ≡ Ok (blinds_of setup)
-  unfolding blinds_said required number_said
+  unfolding blinds_said required_value number_said
   blinds_again ohh ante small big =
       let ante_few : greatest_ante setup ≤ MOST_CHIPS = greatest_few (amount_of setup.antes) MOST_CHIPS 1 count (λ seat. omega (arith, valid.antes seat, stack_few seat)) in
       rw (
@@ -134,20 +134,20 @@ module _ (setup : Setup) (valid : IsValid setup) (is : IsSpelledSetup setup) whe
         le-leb (greatest_ante setup) MOST_CHIPS ante_few,
         small,
         le-leb 1 (blinds_of setup).small blinds_order.0,
-        le-leb (blinds_of setup).small MOST_CHIPS (valid.blinds (small_blind_seat setup)),
+        le-leb (blinds_of setup).small MOST_CHIPS (valid.blinds (seat_of_small_blind setup)),
         big,
         le-leb 1 (blinds_of setup).big (omega (arith, blinds_order.0, blinds_order.1)),
-        le-leb (blinds_of setup).big MOST_CHIPS (valid.blinds (big_blind_seat setup)),
+        le-leb (blinds_of setup).big MOST_CHIPS (valid.blinds (seat_of_big_blind setup)),
       ) fitting_again
 
   -- the sizes of bets
   pub sizes_again : sizes_of setup.code (blinds_of setup).big ≡ record { bring_in = setup.bring_in; small_bet = setup.small_bet; big_bet = setup.big_bet; min_bet = setup.min_bet }
-  sizes_again = by_fixed (is_fixed (limit_of setup.code)) refl
+  sizes_again = by_fixed (is_fixed_limit (limit_of setup.code)) refl
     where
       no_bring_in : setup.bring_in ≡ 0
       no_bring_in = subst (λ (b : Bool). IsSizeWhere b setup.bring_in) (no_stud setup.code is.game) valid.bring_in
 
-      by_fixed : (fixed : Bool) → is_fixed (limit_of setup.code) ≡ fixed → sizes_of setup.code (blinds_of setup).big ≡ record { bring_in = setup.bring_in; small_bet = setup.small_bet; big_bet = setup.big_bet; min_bet = setup.min_bet }
+      by_fixed : (fixed : Bool) → is_fixed_limit (limit_of setup.code) ≡ fixed → sizes_of setup.code (blinds_of setup).big ≡ record { bring_in = setup.bring_in; small_bet = setup.small_bet; big_bet = setup.big_bet; min_bet = setup.min_bet }
       by_fixed true e =
           let tests = and_parts (setup.small_bet == big_blind setup) (setup.big_bet == 2 * big_blind setup) (sizes_fixed true e) in
           let none : setup.min_bet ≡ 0 = subst (λ (b : Bool). IsSizeWhere (not b) setup.min_bet) e valid.least_bet in

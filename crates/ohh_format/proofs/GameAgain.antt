@@ -7,7 +7,7 @@ use Rattle.hand_canon.specs.declared.notes.Notes.{Notes}
 use Rattle.hand_canon.specs.declared.trace.Trace.{Trace}
 use Rattle.ohh_members.specs.declared.dialect.Dialect.{Dialect}
 use Rattle.ohh_members.specs.Game.{game_named, game_said}
-use Rattle.ohh_members.specs.Values.{object_said, required, text_said}
+use Rattle.ohh_members.specs.Values.{object_said, required_value, text_said}
 use Rattle.ohh_writing.specs.Games.{bet_word, game_word, is_spelled_game}
 use Rattle.ohh_writing.specs.Tree.{hand_members}
 
@@ -26,5 +26,5 @@ game_words_again games.FB is = absurd (true≢false (sym is))
 
 -- the game reads back
 pub game_again : (dialect : Dialect) (place : ℕ) (trace : Trace) (notes : Notes) → is_spelled_game trace.setup.code ≡ true → game_said (object (hand_members dialect place trace notes)) ≡ Ok trace.setup.code
-unfolding game_said required text_said object_said
+unfolding game_said required_value text_said object_said
 game_again dialect place trace notes is = rw (game_words_again trace.setup.code is) refl

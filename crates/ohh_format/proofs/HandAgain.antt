@@ -21,7 +21,7 @@ use Rattle.ohh_members.specs.declared.dialect.Dialect.{Dialect}
 use Rattle.ohh_members.specs.declared.fault.Path.TheVariants as paths
 use Rattle.ohh_members.specs.Header.{PlainFront, front_said}
 use Rattle.ohh_members.specs.Players.{PlainPlayer, seated_said}
-use Rattle.ohh_members.specs.Values.{field, list_said, required}
+use Rattle.ohh_members.specs.Values.{list_said, member_at, required_value}
 use Rattle.hand_canon.specs.declared.notes.Moment.{Moment}
 use Rattle.ohh_writing.specs.Moment.{moment_of}
 use Rattle.ohh_writing.specs.Rounds.{hand_rounds}
@@ -118,15 +118,15 @@ module _ (dialect : Dialect) (place : ℕ) (play : Play) (is : IsReadable play) 
   abbrev front : PlainFront
   front = record { code = setup.code; players = players; blinds = blinds_of setup }
 
-  table_name : (found : Option Moment) → moment_of notes ≡ found → field paths.TableName ohh ≡ Some (string (unwrap_or notes.table []))
+  table_name : (found : Option Moment) → moment_of notes ≡ found → member_at paths.TableName ohh ≡ Some (string (unwrap_or notes.table []))
   table_name None e = rw e refl
   table_name (Some moment) e = rw e refl
 
-  table_size : (found : Option Moment) → moment_of notes ≡ found → field paths.TableSize ohh ≡ Some (whole (unwrap_or notes.seat_count seats))
+  table_size : (found : Option Moment) → moment_of notes ≡ found → member_at paths.TableSize ohh ≡ Some (whole (unwrap_or notes.seat_count seats))
   table_size None e = rw e refl
   table_size (Some moment) e = rw e refl
 
-  date : (found : Option Moment) → moment_of notes ≡ found → field paths.StartDate ohh ≡ date_written notes
+  date : (found : Option Moment) → moment_of notes ≡ found → member_at paths.StartDate ohh ≡ date_written notes
   date None e = rw e refl
   date (Some moment) e = rw e refl
 
@@ -163,7 +163,7 @@ module _ (dialect : Dialect) (place : ℕ) (play : Play) (is : IsReadable play) 
     hand_steps = steps setting trace can
 
     listed_rounds : rounds_listed ohh ≡ Ok (round_trees 1 (map round_of (rounds_of dialect trace)))
-    unfolding rounds_listed required list_said
+    unfolding rounds_listed required_value list_said
     listed_rounds =
         let some : (eqb (length (round_trees 1 (map round_of (rounds_of dialect trace)))) 0) ≡ false = ne_eqb (length (round_trees 1 (map round_of (rounds_of dialect trace)))) 0 (λ none. omega (arith, none)) in
         rw (listed_again (round_trees 1 (hand_rounds dialect trace)), rounds_are dialect trace, some) refl

@@ -6,7 +6,7 @@ use Rattle.std.proofs.lemmas.List.{length-append}
 use Rattle.chip_ledger.specs.declared.numbers.TheConstants.{MOST_CHIPS}
 use Rattle.play_event.specs.CanonScript.{plain_move}
 use Rattle.play_event.specs.Chips.{chips_left}
-use Rattle.play_event.specs.Past.{Act, BroughtIn, Called, Folded, Move, Raised, is_fold}
+use Rattle.play_event.specs.Past.{Act, BroughtIn, Called, Folded, Move, Raised, is_folding}
 use Rattle.play_event.specs.Said as said
 use Rattle.play_event.specs.Said.{Numbered, Said}
 use Rattle.play_event.specs.Trace.{TracedMove}
@@ -242,9 +242,9 @@ module _ (setting : PlainHandContext) (setup : Setup) where
 
   -- a seat that is live folds in no move
   abbrev pub HasNotFolded : ℕ → TracedMove → Type 0
-  HasNotFolded seat move = (is_fold move.act && (move.seat == seat)) ≡ false
+  HasNotFolded seat move = (is_folding move.act && (move.seat == seat)) ≡ false
 
-  live_act : (seat : ℕ) (act : Act) (move : TracedMove) (left : ℕ) → (is_fold act && (move.seat == seat)) ≡ false → AllByRecursion (IsNoFold seat) (act_effect dialect act move left)
+  live_act : (seat : ℕ) (act : Act) (move : TracedMove) (left : ℕ) → (is_folding act && (move.seat == seat)) ≡ false → AllByRecursion (IsNoFold seat) (act_effect dialect act move left)
   live_act seat Folded move left is = (is, tt)
   live_act seat Called move left is = (by_current_bet (move.price == move.from), tt)
     where

@@ -17,7 +17,7 @@ use Rattle.ohh_members.specs.declared.fault.MemberFault.{MemberFault}
 use Rattle.ohh_members.specs.declared.fault.Path.{Path}
 use Rattle.ohh_members.specs.declared.fault.Path.TheVariants as paths
 use Rattle.ohh_members.specs.Players.{PlainPlayer}
-use Rattle.ohh_members.specs.Values.{field, number_said, text_said}
+use Rattle.ohh_members.specs.Values.{member_at, number_said, text_said}
 use Rattle.ohh_reading.specs.MomentRanges.{IsMoment}
 use Rattle.ohh_reading.specs.Moments as moments
 use Rattle.ohh_reading.specs.Notes.{label_said, labels_said, names_from, note_said, notes_said, seat_count_said, text_note_said}
@@ -106,12 +106,12 @@ good_moment count notes are (Some moment) is = moment_good notes.year notes.mont
 
 -- the members of the notes, as they are written
 pub record HasNotes (place : ℕ) (count : ℕ) (notes : Notes) (ohh : Data) : Type 0 where
-  pub hand : field paths.GameNumber ohh ≡ Some (string (unwrap_or notes.hand (decimal place)))
-  pub table : field paths.TableName ohh ≡ Some (string (unwrap_or notes.table []))
-  pub seat_count : field paths.TableSize ohh ≡ Some (whole (unwrap_or notes.seat_count count))
-  pub date : field paths.StartDate ohh ≡ date_written notes
-  pub currency : field paths.Currency ohh ≡ Some (string (unwrap_or notes.currency []))
-  pub venue : field paths.SiteName ohh ≡ Some (string (unwrap_or notes.venue []))
+  pub hand : member_at paths.GameNumber ohh ≡ Some (string (unwrap_or notes.hand (decimal place)))
+  pub table : member_at paths.TableName ohh ≡ Some (string (unwrap_or notes.table []))
+  pub seat_count : member_at paths.TableSize ohh ≡ Some (whole (unwrap_or notes.seat_count count))
+  pub date : member_at paths.StartDate ohh ≡ date_written notes
+  pub currency : member_at paths.Currency ohh ≡ Some (string (unwrap_or notes.currency []))
+  pub venue : member_at paths.SiteName ohh ≡ Some (string (unwrap_or notes.venue []))
 
 module _ (place count : ℕ) (stacks : SeatRow) (notes : Notes) (ohh : Data) (few : place < MOST_HANDS) (some : 2 ≤ count) (ten : count ≤ 10) (are : AreAllowed count notes) (has : HasNotes place count notes ohh) where
   abbrev numbers : Option (List ℕ)

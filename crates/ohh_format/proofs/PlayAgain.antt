@@ -3,7 +3,7 @@ use Rattle.std.proofs.Common.{◌≡◌, ℕ, zero, suc, ◌+◌, ◌≤◌, Boo
 use Rattle.std.specs.List.{AllByRecursion, flat_map, list_any, range_with_len}
 use Rattle.card_set.proofs.Counting.{count_by-push}
 use Rattle.card_set.proofs.Finding.{list_any-push}
-use Rattle.card_set.specs.Known.{is_unknown}
+use Rattle.card_set.specs.Known.{hides_card}
 use Rattle.card_set.specs.declared.card.Slot.{Slot}
 use Rattle.chip_ledger.specs.LiveRow.{flag_of}
 use Rattle.play_event.specs.CanonScript.{dealt_slots, held_slots}
@@ -15,10 +15,10 @@ use Rattle.play_event.specs.Seats.{all_seats}
 use Rattle.play_event.specs.Trace.{TracedMove, TracedPlace}
 use Rattle.ohh_members.specs.Values.{seat_of}
 use Rattle.ohh_members.specs.declared.dialect.Dialect.{Dialect}
-use Rattle.ohh_writing.specs.Actions.{has_known}
+use Rattle.ohh_writing.specs.Actions.{has_known_card}
 use Rattle.ohh_rounds.specs.NamedBlinds.{seat_count}
 use Rattle.ohh_rounds.specs.HandContext.{PlainHandContext}
-use Rattle.ohh_rounds.specs.Steps.{PlainStep, has_folded, is_action, is_fold_of, is_move_effect, is_other_effect, moves_in, others_in}
+use Rattle.ohh_rounds.specs.Steps.{PlainStep, is_action, is_fold_of, is_folded, is_move_effect, is_other_effect, moves_in, others_in}
 use Rattle.ohh_rounds.specs.Streets.{has_board_cards, street_after}
 use Rattle.ohh_format.proofs.EffectRounds.{EffectRound, FitRounds, board_effects, effects_on, first_effects, last_street, later_rounds, rounds_of, showdown_effects, steps_after}
 use Rattle.ohh_format.proofs.Effects.{ActionEffect, Bets, Calls, Checks, Deals, Folds, Mucks, Posts, Raises, Shows, deal_effects, post_effects, showing_effects, showing_effect}
@@ -41,7 +41,7 @@ pub record CanBePlayed (setting : PlainHandContext) (trace : Trace) : Type 0 whe
   pub no_more : (seat street : ℕ) → 1 ≤ seat → seat ≤ trace.setup.stacks.seats → 2 ≤ street → street ≤ 4 → dealt_slots (core_said trace).places (Some seat) street ≡ []
   pub no_board : dealt_slots (core_said trace).places None 1 ≡ []
   pub boards_few : (street : ℕ) → length (dealt_slots (core_said trace).places None street) ≤ 7
-  pub known : (street : ℕ) → list_any is_unknown (dealt_slots (core_said trace).places None street) ≡ false
+  pub known : (street : ℕ) → list_any hides_card (dealt_slots (core_said trace).places None street) ≡ false
   pub turn_follows : dealt_slots (core_said trace).places None 2 ≡ [] → dealt_slots (core_said trace).places None 3 ≡ []
   pub river_follows : dealt_slots (core_said trace).places None 3 ≡ [] → dealt_slots (core_said trace).places None 4 ≡ []
   pub quiet : (street : ℕ) → 2 ≤ street → street ≤ 4 → dealt_slots (core_said trace).places None street ≡ [] → AllByRecursion (IsElsewhere setting trace.setup street) (core_said trace).moves
@@ -50,7 +50,7 @@ pub record CanBePlayed (setting : PlainHandContext) (trace : Trace) : Type 0 whe
   pub file : setting.file_moves + length (core_said trace).moves ≤ MOST_FILE_MOVES
   pub posts : AllByRecursion (IsGoodPost setting 0) (post_effects trace.setup)
   pub held_few : (seat : ℕ) → length (held_slots (core_said trace).places seat) ≤ 7
-  pub shown_known : (seat : ℕ) → 1 ≤ seat → seat ≤ trace.setup.stacks.seats → flag_of trace.shown seat ≡ true → list_any is_unknown (held_slots (core_said trace).places seat) ≡ false
+  pub shown_known : (seat : ℕ) → 1 ≤ seat → seat ≤ trace.setup.stacks.seats → flag_of trace.shown seat ≡ true → list_any hides_card (held_slots (core_said trace).places seat) ≡ false
   pub mucked_live : (seat : ℕ) → 1 ≤ seat → seat ≤ trace.setup.stacks.seats → flag_of trace.mucked seat ≡ true → AllByRecursion (HasNotFolded setting trace.setup seat) (core_said trace).moves
 
 pub all_weaker : (P Q : ActionEffect → Type 0) → ((effect : ActionEffect) → P effect → Q effect) → (effects : List ActionEffect) → AllByRecursion P effects → AllByRecursion Q effects
@@ -135,7 +135,7 @@ posts_no_moves (Mucks seat ∷ rest) all = absurd all.0
 deals_counts : (placed : List TracedPlace) (seats : List ℕ) (seat : ℕ)
     → (moves_among (deal_effects placed seats) ≡ 0) × (others_among (deal_effects placed seats) ≡ 0) × AllByRecursion (IsNoFold seat) (deal_effects placed seats)
 deals_counts placed [] seat = (refl, refl, tt)
-deals_counts placed (first ∷ rest) seat = by_known (has_known (dealt_slots placed (Some first) 1)) (deals_counts placed rest seat)
+deals_counts placed (first ∷ rest) seat = by_known (has_known_card (dealt_slots placed (Some first) 1)) (deals_counts placed rest seat)
   where
     by_known : (known : Bool)
         → (moves_among (deal_effects placed rest) ≡ 0) × (others_among (deal_effects placed rest) ≡ 0) × AllByRecursion (IsNoFold seat) (deal_effects placed rest)
@@ -210,7 +210,7 @@ module _ (setting : PlainHandContext) (trace : Trace) (is : CanBePlayed setting 
     numbered : count_by is_action earlier + 1 ≡ n
     moves_done : moves_in earlier ≤ done
     others_done : others_in earlier ≤ boards
-    live : (seat : ℕ) → AllByRecursion (HasNotFolded setting trace.setup seat) moves → has_folded seat earlier ≡ false
+    live : (seat : ℕ) → AllByRecursion (HasNotFolded setting trace.setup seat) moves → is_folded seat earlier ≡ false
 
   after_board : (earlier : List PlainStep) (n done boards : ℕ) (cards : List Slot) → State earlier n done boards → State (with_board earlier cards) n done (boards + 1)
   after_board earlier n done boards [] state = record { numbered = state.numbered; moves_done = state.moves_done; others_done = omega (arith, state.others_done); live = state.live }
@@ -247,7 +247,7 @@ module _ (setting : PlainHandContext) (trace : Trace) (is : CanBePlayed setting 
     good : (round : ℕ) → AllByRecursion (IsGoodMove setting round) effects
     good round = moves_good setting trace.setup round number [] moves is.moves
 
-    board_fits : (last : Option StreetName) (earlier : List PlainStep) (n index done boards : ℕ) (c : List Slot) → length c ≤ 7 → list_any is_unknown c ≡ false
+    board_fits : (last : Option StreetName) (earlier : List PlainStep) (n index done boards : ℕ) (c : List Slot) → length c ≤ 7 → list_any hides_card c ≡ false
         → State earlier n done boards → boards ≤ 3 → done + length effects ≤ length moves → (1 ≤ length c → street_after last (street_name street) ≡ Some street)
         → FitRounds setting last earlier n index (board_effects street c effects)
     board_fits last earlier n index done boards [] few known state three room follows = tt
@@ -315,7 +315,7 @@ module _ (setting : PlainHandContext) (trace : Trace) (is : CanBePlayed setting 
       let moves_none : moves_in middle ≤ 0 = omega (arith, counts_both (λ (x : PlainStep). is_move_effect x.effect) front (steps_of dialect (1 + length posts) 0 (0 + length posts) holes), moves_of_steps dialect 0 (1 + length posts) (0 + length posts) holes, counts.0, after_posts.moves_done) in
       told_both setting 0 1 0 [] posts (holes ++ opening) (posts_told setting 0 1 0 [] posts refl refl is.posts)
       (told_both setting 0 (1 + length posts) (0 + length posts) front holes opening
-      (deals_told setting 0 (λ seat. dealt_slots placed (Some seat) 1) (λ seat. has_known (dealt_slots placed (Some seat) 1)) (1 + length posts) (0 + length posts) 1 seats front refl
+      (deals_told setting 0 (λ seat. dealt_slots placed (Some seat) 1) (λ seat. has_known_card (dealt_slots placed (Some seat) 1)) (1 + length posts) (0 + length posts) 1 seats front refl
       (λ seat from within. (is.players seat from (omega (arith, within)), let count = is.holes seat from (omega (arith, within)) in omega (arith, count, is.few_hole)))
       (λ seat from. (no_cards seat).cards))
       (moves_told setting 0 (1 + length posts + length holes) (0 + length posts + length holes) middle opening
@@ -348,7 +348,7 @@ module _ (setting : PlainHandContext) (trace : Trace) (is : CanBePlayed setting 
 
   -- ---- the showdown
 
-  shows_good : (index : ℕ) (before : List PlainStep) → ((seat : ℕ) → AllByRecursion (HasNotFolded setting trace.setup seat) moves → has_folded seat before ≡ false)
+  shows_good : (index : ℕ) (before : List PlainStep) → ((seat : ℕ) → AllByRecursion (HasNotFolded setting trace.setup seat) moves → is_folded seat before ≡ false)
       → (first many : ℕ) → 1 ≤ first → first + many ≤ seats + 1 → AllByRecursion (IsGoodShow setting index before) (flat_map (showing_effect trace) (range_with_len first many))
   shows_good index before live first zero low high = tt
   shows_good index before live first (suc many) low high =

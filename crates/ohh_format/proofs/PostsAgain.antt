@@ -14,7 +14,7 @@ use Rattle.chip_ledger.specs.SeatRow.{amount_of, amounts_in}
 use Rattle.play_event.specs.Chips.{blind_posted}
 use Rattle.play_event.specs.Seats.{all_seats}
 use Rattle.play_event.specs.declared.setup.Setup.{Setup}
-use Rattle.ohh_writing.specs.Actions.{big_blind_seat, small_blind_seat}
+use Rattle.ohh_writing.specs.Actions.{seat_of_big_blind, seat_of_small_blind}
 use Rattle.ohh_writing.specs.Spelled.{greatest_ante}
 use Rattle.ohh_rounds.specs.declared.checking.PostRule.{PostRule}
 use Rattle.ohh_rounds.specs.declared.checking.PostRule.TheVariants as conditions
@@ -50,16 +50,16 @@ straddles_put setup seats = puts_of kinds.Straddle (blind_posted setup) (posts_s
 abbrev pub puts : Setup → List Put
 puts setup =
     antes_put setup (all_seats setup)
-    ++ (blind_put setup kinds.SmallBlind (small_blind_seat setup)
-    ∷ blind_put setup kinds.BigBlind (big_blind_seat setup)
+    ++ (blind_put setup kinds.SmallBlind (seat_of_small_blind setup)
+    ∷ blind_put setup kinds.BigBlind (seat_of_big_blind setup)
     ∷ straddles_put setup (all_seats setup))
 
 -- a table is that of a setup whose antes and blinds can be written
 pub record IsTableOf (setup : Setup) (table : PlainNamedBlinds) : Type 0 where
   pub count : seat_count table ≡ setup.stacks.seats
   pub stacks : (seat : ℕ) → stack_of table seat ≡ amount_of setup.stacks seat
-  pub small : table.small_blind ≡ amount_of setup.blinds (small_blind_seat setup)
-  pub big : table.big_blind ≡ amount_of setup.blinds (big_blind_seat setup)
+  pub small : table.small_blind ≡ amount_of setup.blinds (seat_of_small_blind setup)
+  pub big : table.big_blind ≡ amount_of setup.blinds (seat_of_big_blind setup)
   pub same_antes : setup.antes.seats ≡ setup.stacks.seats
   pub same_blinds : setup.blinds.seats ≡ setup.stacks.seats
   pub some_stack : (seat : ℕ) → 1 ≤ seat → seat ≤ setup.stacks.seats → 1 ≤ amount_of setup.stacks seat
@@ -88,7 +88,7 @@ module _ (setup : Setup) (table : PlainNamedBlinds) (is : IsTableOf setup table)
 
   abbrev blinds_and_straddles : List Put
   blinds_and_straddles =
-      blind_put setup kinds.SmallBlind (small_blind_seat setup) ∷ blind_put setup kinds.BigBlind (big_blind_seat setup) ∷ straddles_put setup (all_seats setup)
+      blind_put setup kinds.SmallBlind (seat_of_small_blind setup) ∷ blind_put setup kinds.BigBlind (seat_of_big_blind setup) ∷ straddles_put setup (all_seats setup)
 
   ante_found : (seat : ℕ) → 1 ≤ seat → seat ≤ count → first_ante seat posts ≡ cond (posts_ante setup seat) (Some (amount_of setup.antes seat)) None
   ante_found seat low high =
@@ -115,13 +115,13 @@ module _ (setup : Setup) (table : PlainNamedBlinds) (is : IsTableOf setup table)
   left_is : (seat : ℕ) → 1 ≤ seat → seat ≤ count → conditions_of.left_of table posts seat ≡ amount_of setup.stacks seat - amount_of setup.antes seat
   left_is seat low high = rw (is.stacks seat, ante_is seat low high) refl
 
-  small_seat : tables.small_blind_seat table ≡ small_blind_seat setup
+  small_seat : tables.seat_of_small_blind table ≡ seat_of_small_blind setup
   small_seat = ap (λ (n : ℕ). if n == 2 then 2 else 1) is.count
 
-  big_seat : tables.big_blind_seat table ≡ big_blind_seat setup
+  big_seat : tables.seat_of_big_blind table ≡ seat_of_big_blind setup
   big_seat = ap (λ (n : ℕ). if n == 2 then 1 else 2) is.count
 
-  both_in : (1 ≤ small_blind_seat setup) × (small_blind_seat setup ≤ count) × (1 ≤ big_blind_seat setup) × (big_blind_seat setup ≤ count)
+  both_in : (1 ≤ seat_of_small_blind setup) × (seat_of_small_blind setup ≤ count) × (1 ≤ seat_of_big_blind setup) × (seat_of_big_blind setup ≤ count)
   both_in = by_two (count == 2) refl
     where
       by_two : (two : Bool) → (count == 2) ≡ two → (1 ≤ (if two then 2 else 1)) × ((if two then 2 else 1) ≤ count) × (1 ≤ (if two then 1 else 2)) × ((if two then 1 else 2) ≤ count)
@@ -175,12 +175,12 @@ module _ (setup : Setup) (table : PlainNamedBlinds) (is : IsTableOf setup table)
     pub first : first_put is_ante seat before ≡ None
 
   pub record IsSmall (before : List Put) (seat amount : ℕ) : Type 0 where
-    pub at : seat ≡ small_blind_seat setup
+    pub at : seat ≡ seat_of_small_blind setup
     pub same : amount ≡ blind_posted setup seat
     pub first : has_put is_small_blind before ≡ false
 
   pub record IsBig (before : List Put) (seat amount : ℕ) : Type 0 where
-    pub at : seat ≡ big_blind_seat setup
+    pub at : seat ≡ seat_of_big_blind setup
     pub same : amount ≡ blind_posted setup seat
     pub first : has_put is_big_blind before ≡ false
 
@@ -233,7 +233,7 @@ module _ (setup : Setup) (table : PlainNamedBlinds) (is : IsTableOf setup table)
   unfolding is_breaking
   small_fine conditions.Early before index seat amount fine = refl
   small_fine conditions.OneOfEachBlind before index seat amount fine = rw (has_is is_small_blind 0 before, fine.first) refl
-  small_fine conditions.BlindSeats before index seat amount fine = rw (small_seat, eq-eqb seat (small_blind_seat setup) fine.at) refl
+  small_fine conditions.BlindSeats before index seat amount fine = rw (small_seat, eq-eqb seat (seat_of_small_blind setup) fine.at) refl
   small_fine conditions.BlindAmounts before index seat amount fine =
       let low : 1 ≤ seat = omega (arith, fine.at, both_in.0) in
       let high : seat ≤ count = omega (arith, fine.at, both_in.1) in
@@ -249,7 +249,7 @@ module _ (setup : Setup) (table : PlainNamedBlinds) (is : IsTableOf setup table)
   unfolding is_breaking
   big_fine conditions.Early before index seat amount fine = refl
   big_fine conditions.OneOfEachBlind before index seat amount fine = rw (has_is is_big_blind 0 before, fine.first) refl
-  big_fine conditions.BlindSeats before index seat amount fine = rw (big_seat, eq-eqb seat (big_blind_seat setup) fine.at) refl
+  big_fine conditions.BlindSeats before index seat amount fine = rw (big_seat, eq-eqb seat (seat_of_big_blind setup) fine.at) refl
   big_fine conditions.BlindAmounts before index seat amount fine =
       let low : 1 ≤ seat = omega (arith, fine.at, both_in.2) in
       let high : seat ≤ count = omega (arith, fine.at, both_in.3) in
@@ -350,8 +350,8 @@ module _ (setup : Setup) (table : PlainNamedBlinds) (is : IsTableOf setup table)
 
   blinds_fine : (before : List Put) → NoBlinds before → AreFine before blinds_and_straddles
   blinds_fine before none =
-      let small : Put = blind_put setup kinds.SmallBlind (small_blind_seat setup) in
-      let big : Put = blind_put setup kinds.BigBlind (big_blind_seat setup) in
+      let small : Put = blind_put setup kinds.SmallBlind (seat_of_small_blind setup) in
+      let big : Put = blind_put setup kinds.BigBlind (seat_of_big_blind setup) in
       let no_big : has_put is_big_blind (before ++ small ∷ []) ≡ false = has_both is_big_blind before (small ∷ []) ∙ ap (λ b. b || false) none.big in
       let no_straddle : (seat : ℕ) → first_put is_straddle seat ((before ++ small ∷ []) ++ big ∷ []) ≡ None =
       λ seat. other_put is_straddle seat (before ++ small ∷ []) big refl ∙ other_put is_straddle seat before small refl ∙ none.straddles seat in (
@@ -430,9 +430,9 @@ module _ (setup : Setup) (table : PlainNamedBlinds) (is : IsTableOf setup table)
 
   blind_named : (seat : ℕ) → 1 ≤ seat → seat ≤ count → named_blind table posts seat ≡ amount_of setup.blinds seat
   blind_named seat low high =
-      ap (λ (n : ℕ). if seat == n then table.small_blind else if seat == tables.big_blind_seat table then table.big_blind else straddle) small_seat
-      ∙ ap (λ (n : ℕ). if seat == small_blind_seat setup then table.small_blind else if seat == n then table.big_blind else straddle) big_seat
-      ∙ by_small (seat == small_blind_seat setup) refl (seat == big_blind_seat setup) refl
+      ap (λ (n : ℕ). if seat == n then table.small_blind else if seat == tables.seat_of_big_blind table then table.big_blind else straddle) small_seat
+      ∙ ap (λ (n : ℕ). if seat == seat_of_small_blind setup then table.small_blind else if seat == n then table.big_blind else straddle) big_seat
+      ∙ by_small (seat == seat_of_small_blind setup) refl (seat == seat_of_big_blind setup) refl
     where
       straddle : ℕ
       straddle = option_map_or (λ straddle. straddle) (first_straddle seat posts) 0
@@ -441,10 +441,10 @@ module _ (setup : Setup) (table : PlainNamedBlinds) (is : IsTableOf setup table)
       past true e one other = grind (arith, nat_tests, low, high)
       past false e one other = grind (arith, nat_tests, low, high)
 
-      by_small : (small : Bool) → (seat == small_blind_seat setup) ≡ small → (big : Bool) → (seat == big_blind_seat setup) ≡ big
+      by_small : (small : Bool) → (seat == seat_of_small_blind setup) ≡ small → (big : Bool) → (seat == seat_of_big_blind setup) ≡ big
           → (if small then table.small_blind else if big then table.big_blind else straddle) ≡ amount_of setup.blinds seat
-      by_small true e big f = is.small ∙ ap (amount_of setup.blinds) (sym (eqb-true seat (small_blind_seat setup) e))
-      by_small false e true f = is.big ∙ ap (amount_of setup.blinds) (sym (eqb-true seat (big_blind_seat setup) f))
+      by_small true e big f = is.small ∙ ap (amount_of setup.blinds) (sym (eqb-true seat (seat_of_small_blind setup) e))
+      by_small false e true f = is.big ∙ ap (amount_of setup.blinds) (sym (eqb-true seat (seat_of_big_blind setup) f))
       by_small false e false f = straddle_named seat (past (count == 2) refl e f) high
 
   -- the antes and blinds

@@ -22,7 +22,7 @@ use Rattle.hand_canon.specs.declared.trace.Trace.{Trace}
 use Rattle.ohh_members.specs.declared.fault.MemberFault.{MemberFault}
 use Rattle.ohh_members.specs.declared.fault.Path.TheVariants as paths
 use Rattle.first_fault.specs.Reading.{added_from}
-use Rattle.ohh_members.specs.Values.{field, list_said, number_said, object_said, required}
+use Rattle.ohh_members.specs.Values.{list_said, member_at, number_said, object_said, required_value}
 use Rattle.ohh_reading.specs.PotSums.{PlainListedPot, all_of, rake_at, rakes_said}
 use Rattle.ohh_reading.specs.Pots.{PlainPaid, PlainPots, amount_said, listed_paid, no_pots, none_paid, pot_added, pots_said, rake_said, summed, wins_said}
 use Rattle.ohh_reading.specs.Won.{PlainWin, won_by}
@@ -135,13 +135,13 @@ module _ (trace : Trace) where
       rw (le-leb 0 (rake_of trace.setup.rakes (place + 1)) (omega arith), le-leb (rake_of trace.setup.rakes (place + 1)) MOST_AMOUNT (rakes (place + 1)), lt-leb 11 place few) refl
 
   amount_again : (place : ℕ) (pot : Pot) (earlier : List PlainListedPot) → all_of earlier + pot.chips ≤ MOST_AMOUNT → amount_said earlier place (pot_tree trace place pot) ≡ Ok pot.chips
-  unfolding amount_said required number_said summed
+  unfolding amount_said required_value number_said summed
   amount_again place pot earlier few =
       rw (le-leb 0 pot.chips (omega arith), le-leb pot.chips MOST_AMOUNT (omega (arith, few)), le-leb (all_of earlier + pot.chips) MOST_AMOUNT few) refl
 
   won_again : (place : ℕ) (pot : Pot) (earlier : List PlainWin) → ((seat : ℕ) → won_by seat earlier + amount_of (share_at trace place) seat ≤ MOST_AMOUNT)
       → wins_said ids place earlier (pot_tree trace place pot) ≡ Ok (earlier ++ wins_plain (share_at trace place) (seats_of count))
-  unfolding wins_said required list_said
+  unfolding wins_said required_value list_said
   won_again place pot earlier few =
       rw (listed_again (flat_map (win_tree (share_at trace place)) (seats_of count)))
       (wins_again count place (share_at trace place) 1 count 0 earlier (omega arith) (omega arith) (λ seat from. few seat))
@@ -244,7 +244,7 @@ module _ (trace : Trace) where
     paid_found None = Ok none_paid
 
     -- what is stated of the pots
-    pub pots_again : (ohh : Data) → field paths.Pots ohh ≡ Some (tree.pots trace)
+    pub pots_again : (ohh : Data) → member_at paths.Pots ohh ≡ Some (tree.pots trace)
         → pots_said ids ohh ≡ Ok (record { wins = Some (map (win_of trace) (seats_of count)); total = Some (pot_total_of trace); rakes = trace.setup.rakes.rakes })
     unfolding pots_said listed_paid list_said paid_found found
     pots_again ohh is =

@@ -3,13 +3,13 @@ use Rattle.std.proofs.Common.{◌≡◌, ℕ, ◌+◌, ◌<◌, ◌≤◌, Bool,
 use Rattle.std.specs.List.{list_any}
 use Rattle.std.proofs.lemmas.Bool.{lt-leb, ne_eqb}
 use Rattle.card_set.proofs.Counting.{count_by-push}
-use Rattle.card_set.specs.Known.{is_unknown, known_cards}
+use Rattle.card_set.specs.Known.{hides_card, known_among}
 use Rattle.card_set.specs.declared.card.Slot.{Slot}
 use Rattle.card_set.specs.declared.card.Slot.TheVariants as slots
 use Rattle.play_event.specs.declared.hand_limits.TheConstants.{MOST_OTHER_EVENTS}
 use Rattle.play_event.specs.Said as said
 use Rattle.ohh_members.specs.declared.fault.RoundMember.TheVariants as members
-use Rattle.ohh_members.specs.Values.{list_said, object_said, required, text_said}
+use Rattle.ohh_members.specs.Values.{list_said, object_said, required_value, text_said}
 use Rattle.ohh_writing.specs.Rounds.{round}
 use Rattle.ohh_writing.specs.Tree.{action_trees, round_tree}
 use Rattle.ohh_rounds.specs.NamedBlinds.{seat_count}
@@ -26,7 +26,7 @@ use Rattle.ohh_members.specs.declared.street.StreetName.{StreetName}
 
 -- the step of a board that was dealt
 abbrev pub board_step : List Slot → PlainStep
-board_step cards = record { number = 0; effect = Happened (said.Board (known_cards cards)) }
+board_step cards = record { number = 0; effect = Happened (said.Board (known_among cards)) }
 
 -- the steps with those of the board, if it was dealt
 abbrev pub with_board : List PlainStep → List Slot → List PlainStep
@@ -35,18 +35,18 @@ with_board earlier (slot ∷ rest) = earlier ++ board_step (slot ∷ rest) ∷ [
 
 module _ (setting : PlainHandContext) where
   -- the cards of a round
-  board_again : (street : StreetName) (index n : ℕ) (cards : List Slot) (word : StreetName) (effects : List ActionEffect) → length cards ≤ 7 → list_any is_unknown cards ≡ false → (deals : Bool) → has_board_cards street ≡ deals → (deals ≡ false → cards ≡ [])
-      → board_said street index (round_tree n (round word cards (map action_of effects))) ≡ Ok (known_cards cards)
+  board_again : (street : StreetName) (index n : ℕ) (cards : List Slot) (word : StreetName) (effects : List ActionEffect) → length cards ≤ 7 → list_any hides_card cards ≡ false → (deals : Bool) → has_board_cards street ≡ deals → (deals ≡ false → cards ≡ [])
+      → board_said street index (round_tree n (round word cards (map action_of effects))) ≡ Ok (known_among cards)
   unfolding board_said no_cards list_said
   board_again street index n cards word effects few known true is none = rw (is, cards_again (at_round index members.Cards) cards few known) refl
   board_again street index n cards word effects few known false is none = rw (is, none refl) refl
 
-  dealt_again : (earlier : List PlainStep) (index : ℕ) (cards : List Slot) → list_any is_unknown cards ≡ false → seat_count setting.table + others_in earlier < MOST_OTHER_EVENTS
-      → board_dealt setting earlier index (known_cards cards) ≡ Ok (with_board earlier cards)
+  dealt_again : (earlier : List PlainStep) (index : ℕ) (cards : List Slot) → list_any hides_card cards ≡ false → seat_count setting.table + others_in earlier < MOST_OTHER_EVENTS
+      → board_dealt setting earlier index (known_among cards) ≡ Ok (with_board earlier cards)
   unfolding board_dealt event_counted
   dealt_again earlier index [] known room = refl
   dealt_again earlier index (slots.Unknown ∷ rest) known room = absurd (true≢false known)
-  dealt_again earlier index (slots.Known card ∷ rest) known room = rw (ne_eqb (length (known_cards (slots.Known card ∷ rest))) 0 (λ none. omega (arith, none)), lt-leb MOST_OTHER_EVENTS (seat_count setting.table + others_in earlier) room) refl
+  dealt_again earlier index (slots.Known card ∷ rest) known room = rw (ne_eqb (length (known_among (slots.Known card ∷ rest))) 0 (λ none. omega (arith, none)), lt-leb MOST_OTHER_EVENTS (seat_count setting.table + others_in earlier) room) refl
 
   board_counts : (earlier : List PlainStep) (cards : List Slot) → count_by is_action (with_board earlier cards) ≡ count_by is_action earlier
   board_counts earlier [] = refl
@@ -56,7 +56,7 @@ module _ (setting : PlainHandContext) where
   pub record FitsRound (last : Option StreetName) (earlier : List PlainStep) (n index : ℕ) (street : StreetName) (cards : List Slot) (effects : List ActionEffect) : Type 0 where
     pub follows : street_after last (street_name street) ≡ Some street
     pub few : length cards ≤ 7
-    pub known : list_any is_unknown cards ≡ false
+    pub known : list_any hides_card cards ≡ false
     pub deals : has_board_cards street ≡ false → cards ≡ []
     pub room : seat_count setting.table + others_in earlier < MOST_OTHER_EVENTS
     pub numbered : count_by is_action earlier + 1 ≡ n
@@ -65,7 +65,7 @@ module _ (setting : PlainHandContext) where
   pub round_read : (last : Option StreetName) (earlier : List PlainStep) (n m index : ℕ) (street : StreetName) (cards : List Slot) (effects : List ActionEffect)
       → FitsRound last earlier n index street cards effects
       → round_said setting (last, earlier) index (round_tree m (round street cards (map action_of effects))) ≡ Ok (Some street, with_board earlier cards ++ steps_of setting.dialect n index 0 effects)
-  unfolding round_said opening_said street_said object_said required text_said list_said
+  unfolding round_said opening_said street_said object_said required_value text_said list_said
   round_read last earlier n m index street cards effects fits =
       rw (
         fits.follows,

@@ -3,7 +3,7 @@
 use Rattle.std.proofs.Common.{◌≡◌, ℕ, zero, suc, ◌+◌, ◌-◌, ◌≤◌, Bool, true, false, cond, if◌then◌else◌, List, [], ◌∷◌, ◌++◌, length, map, Some, None, refl, sym, ap, ap₂, subst, ◌∙◌, arith, append_assoc}
 use Rattle.std.specs.List.{AllByRecursion, flat_map, range_with_len}
 use Rattle.std.proofs.lemmas.List.{append-nil, length-append, length-map}
-use Rattle.card_set.specs.Known.{known_cards}
+use Rattle.card_set.specs.Known.{known_among}
 use Rattle.card_set.specs.declared.card.Slot.{Slot}
 use Rattle.chip_ledger.specs.LiveRow.{flag_of}
 use Rattle.chip_ledger.specs.Seat.{seats_of}
@@ -19,7 +19,7 @@ use Rattle.play_event.specs.Seats.{all_seats}
 use Rattle.play_event.specs.Trace.{TracedMove, TracedPlace}
 use Rattle.play_event.specs.declared.setup.Setup.{Setup}
 use Rattle.ohh_members.specs.declared.dialect.Dialect.{Dialect}
-use Rattle.ohh_writing.specs.Actions.{big_blind_seat, has_known, posts, small_blind_seat}
+use Rattle.ohh_writing.specs.Actions.{has_known_card, posts, seat_of_big_blind, seat_of_small_blind}
 use Rattle.ohh_rounds.specs.Posts.{PlainPost}
 use Rattle.ohh_rounds.specs.declared.post.PostKind.TheVariants as kinds
 use Rattle.ohh_rounds.specs.Play.{events_in, hole_deal, posts_in, script_said}
@@ -72,8 +72,8 @@ straddles_are setup (seat ∷ rest) =
 
 puts_are : (setup : Setup) → puts_among (post_effects setup) ≡ puts setup
 puts_are setup =
-    puts_both (flat_map (ante_effect setup) (all_seats setup)) (blind_effect setup kinds.SmallBlind (small_blind_seat setup) ∷ blind_effect setup kinds.BigBlind (big_blind_seat setup) ∷ flat_map (straddle_effect setup) (all_seats setup))
-    ∙ ap₂ (λ (a b : List Put). a ++ (record { kind = kinds.SmallBlind; seat = small_blind_seat setup; amount = blind_posted setup (small_blind_seat setup) } ∷ record { kind = kinds.BigBlind; seat = big_blind_seat setup; amount = blind_posted setup (big_blind_seat setup) } ∷ b))
+    puts_both (flat_map (ante_effect setup) (all_seats setup)) (blind_effect setup kinds.SmallBlind (seat_of_small_blind setup) ∷ blind_effect setup kinds.BigBlind (seat_of_big_blind setup) ∷ flat_map (straddle_effect setup) (all_seats setup))
+    ∙ ap₂ (λ (a b : List Put). a ++ (record { kind = kinds.SmallBlind; seat = seat_of_small_blind setup; amount = blind_posted setup (seat_of_small_blind setup) } ∷ record { kind = kinds.BigBlind; seat = seat_of_big_blind setup; amount = blind_posted setup (seat_of_big_blind setup) } ∷ b))
     (antes_are setup (all_seats setup)) (straddles_are setup (all_seats setup))
 
 -- ---- what holds of the deeds of each round
@@ -131,7 +131,7 @@ no_events dialect n (Mucks seat ∷ rest) all = absurd all.0
 
 deal_events : (dialect : Dialect) (placed : List TracedPlace) (n : ℕ) (seats : List ℕ) → numbered_effects dialect n (deal_effects placed seats) ≡ []
 deal_events dialect placed n [] = refl
-deal_events dialect placed n (seat ∷ rest) = by_known (has_known (dealt_slots placed (Some seat) 1)) (λ k. deal_events dialect placed k rest)
+deal_events dialect placed n (seat ∷ rest) = by_known (has_known_card (dealt_slots placed (Some seat) 1)) (λ k. deal_events dialect placed k rest)
   where
     by_known : (known : Bool) → ((k : ℕ) → numbered_effects dialect k (deal_effects placed rest) ≡ []) → numbered_effects dialect n ((if known then Deals seat (dealt_slots placed (Some seat) 1) ∷ [] else []) ++ deal_effects placed rest) ≡ []
     by_known true later = later (n + 1)
@@ -139,7 +139,7 @@ deal_events dialect placed n (seat ∷ rest) = by_known (has_known (dealt_slots 
 
 deals_no_posts : (placed : List TracedPlace) (seats : List ℕ) → AllByRecursion IsNoPost (deal_effects placed seats)
 deals_no_posts placed [] = tt
-deals_no_posts placed (seat ∷ rest) = by_known (has_known (dealt_slots placed (Some seat) 1)) (deals_no_posts placed rest)
+deals_no_posts placed (seat ∷ rest) = by_known (has_known_card (dealt_slots placed (Some seat) 1)) (deals_no_posts placed rest)
   where
     by_known : (known : Bool) → AllByRecursion IsNoPost (deal_effects placed rest) → AllByRecursion IsNoPost ((if known then Deals seat (dealt_slots placed (Some seat) 1) ∷ [] else []) ++ deal_effects placed rest)
     by_known true later = (tt, later)
@@ -148,7 +148,7 @@ deals_no_posts placed (seat ∷ rest) = by_known (has_known (dealt_slots placed 
 -- what a seat does at the showdown
 abbrev pub showing_events : Trace → ℕ → List Said
 showing_events trace seat =
-    if flag_of trace.shown seat then said.Show seat (known_cards (held_slots (core_said trace).places seat)) ∷ []
+    if flag_of trace.shown seat then said.Show seat (known_among (held_slots (core_said trace).places seat)) ∷ []
     else (if flag_of trace.mucked seat then said.Muck seat ∷ [] else [])
 
 shows_are_no : (P : ActionEffect → Type 0) → ((seat : ℕ) (cards : List Slot) → P (Shows seat cards)) → ((seat : ℕ) → P (Mucks seat)) → (trace : Trace) (seats : List ℕ) → AllByRecursion P (flat_map (showing_effect trace) seats)
@@ -167,8 +167,8 @@ shows_events dialect trace n (seat ∷ rest) = by_flags (flag_of trace.shown sea
   where
     by_flags : (shown mucked : Bool) → ((k : ℕ) → numbered_effects dialect k (flat_map (showing_effect trace) rest) ≡ numbered_from k (flat_map (showing_events trace) rest))
         → numbered_effects dialect n ((if shown then Shows seat (held_slots (core_said trace).places seat) ∷ [] else (if mucked then Mucks seat ∷ [] else [])) ++ flat_map (showing_effect trace) rest)
-        ≡ numbered_from n ((if shown then said.Show seat (known_cards (held_slots (core_said trace).places seat)) ∷ [] else (if mucked then said.Muck seat ∷ [] else [])) ++ flat_map (showing_events trace) rest)
-    by_flags true mucked later = ap (λ (l : List Numbered). at_number n (said.Show seat (known_cards (held_slots (core_said trace).places seat)) ∷ []) ++ l) (later (n + 1))
+        ≡ numbered_from n ((if shown then said.Show seat (known_among (held_slots (core_said trace).places seat)) ∷ [] else (if mucked then said.Muck seat ∷ [] else [])) ++ flat_map (showing_events trace) rest)
+    by_flags true mucked later = ap (λ (l : List Numbered). at_number n (said.Show seat (known_among (held_slots (core_said trace).places seat)) ∷ []) ++ l) (later (n + 1))
     by_flags false true later = ap (λ (l : List Numbered). at_number n (said.Muck seat ∷ []) ++ l) (later (n + 1))
     by_flags false false later = later n
 
@@ -194,7 +194,7 @@ board_same : (dialect : Dialect) (street : StreetName) (cards : List Slot) (even
 board_same dialect street [] events effects same count quiet = record { same = λ n. ap (numbered_from n) (quiet refl); count = ap told_in (quiet refl) }
 board_same dialect street (slot ∷ rest) events effects same count quiet =
     record {
-      same = λ n. ap (λ (l : List Numbered). (0, said.Board (known_cards (slot ∷ rest))) ∷ l) (sym (same n) ∙ sym (append-nil (numbered_effects dialect n effects)));
+      same = λ n. ap (λ (l : List Numbered). (0, said.Board (known_among (slot ∷ rest))) ∷ l) (sym (same n) ∙ sym (append-nil (numbered_effects dialect n effects)));
       count = omega (arith, count);
     }
 
@@ -274,9 +274,9 @@ module _ (setting : PlainHandContext) (trace : Trace) (is : CanBePlayed setting 
         where
           by_cards : (cards : List Slot) → 1 ≤ length cards → told_in (flat_map (λ seat. deal_said seat (dealt_slots placed (Some seat) 1)) (range_with_len (first + 1) many)) ≡ length (deal_effects placed (range_with_len (first + 1) many))
               → told_in (deal_said first cards ++ flat_map (λ seat. deal_said seat (dealt_slots placed (Some seat) 1)) (range_with_len (first + 1) many))
-              ≡ length ((if has_known cards then Deals first cards ∷ [] else []) ++ deal_effects placed (range_with_len (first + 1) many))
+              ≡ length ((if has_known_card cards then Deals first cards ∷ [] else []) ++ deal_effects placed (range_with_len (first + 1) many))
           by_cards [] some rest = absurd (omega (arith, some))
-          by_cards (slot ∷ cards) some rest = by_known (has_known (slot ∷ cards))
+          by_cards (slot ∷ cards) some rest = by_known (has_known_card (slot ∷ cards))
             where
               by_known : (known : Bool) → cond known 1 0 + told_in (flat_map (λ seat. deal_said seat (dealt_slots placed (Some seat) 1)) (range_with_len (first + 1) many))
                   ≡ length ((if known then Deals first (slot ∷ cards) ∷ [] else []) ++ deal_effects placed (range_with_len (first + 1) many))

@@ -20,7 +20,7 @@ use Rattle.hand_canon.specs.declared.notes.Notes.{Notes}
 use Rattle.ohh_members.specs.declared.fault.Path.TheVariants as paths
 use Rattle.ohh_members.specs.Players.{PlainPlayer, above, button_said, has_id, has_seat, id_said, lower, lowest, next_player, player_added, player_at, player_said, players_said, round_from, seat_said, seated, seated_said, short_text_said, stack_said}
 use Rattle.first_fault.specs.Reading.{added_from}
-use Rattle.ohh_members.specs.Values.{field, integer_said, list_said, listed, number_said, object_said, required, text_said}
+use Rattle.ohh_members.specs.Values.{integer_said, list_said, listed, member_at, number_said, object_said, required_value, text_said}
 use Rattle.ohh_writing.specs.Seating.{number_among}
 use Rattle.ohh_writing.specs.Tree.{player_tree, players, whole}
 use Rattle.ohh_format.proofs.CardLists.{listed_again}
@@ -196,7 +196,7 @@ module _ (count : ℕ) (stacks : SeatRow) (notes : Notes) (numbers : Option (Lis
           by_name (Some name) is = is.text.1
 
       player_read : (k index : ℕ) → k + 1 ≤ count → player_added (players_from 1 k) index (player_tree stacks notes numbers (k + 1)) ≡ Ok (players_from 1 k ++ player_of (k + 1) ∷ [])
-      unfolding player_added player_said id_said seat_said short_text_said stack_said object_said required text_said integer_said number_said
+      unfolding player_added player_said id_said seat_said short_text_said stack_said object_said required_value text_said integer_said number_said
       player_read k index high =
           let seat : ℕ = k + 1 in
           let within = is.each seat (omega arith) high in
@@ -229,9 +229,9 @@ module _ (count : ℕ) (stacks : SeatRow) (notes : Notes) (numbers : Option (Lis
 
       -- the players of the hand, in the order of their seats
       pub seated_read : (ohh : Data) → stacks.seats ≡ count → 2 ≤ count
-          → field paths.Players ohh ≡ Some (players stacks notes numbers) → field paths.DealerSeat ohh ≡ Some (whole (number_among numbers count))
+          → member_at paths.Players ohh ≡ Some (players stacks notes numbers) → member_at paths.DealerSeat ohh ≡ Some (whole (number_among numbers count))
           → seated_said ohh ≡ Ok (players_from 1 count)
-      unfolding seated_said players_said button_said required list_said integer_said
+      unfolding seated_said players_said button_said required_value list_said integer_said
       seated_read ohh seats some has_players has_dealer =
           let items : List Data = map (player_tree stacks notes numbers) (seats_of count) in
           let long : length items ≡ count = length-map (seats_of count) (player_tree stacks notes numbers) ∙ length-range_with_len 1 count in

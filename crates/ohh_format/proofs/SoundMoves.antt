@@ -7,7 +7,7 @@ use Rattle.canon_laws.proofs.MoveRanges.{IsMoveInRange}
 use Rattle.play_event.specs.Chips.{all_in}
 use Rattle.play_event.specs.MoveReasons.{actor_of}
 use Rattle.play_event.specs.Openers.{TheSeat}
-use Rattle.play_event.specs.Past.{Called, Move, Moved, is_bring_in, is_fold, is_raise, moves_on}
+use Rattle.play_event.specs.Past.{Called, Move, Moved, is_bringing_in, is_folding, is_raising, moves_on}
 use Rattle.play_event.specs.Places.{Place}
 use Rattle.play_event.specs.CurrentBet.{current_bet}
 use Rattle.play_event.specs.Said.{Said}
@@ -26,12 +26,12 @@ use Rattle.play_laws.proofs.ResolvedMoves.{act_of, target_of}
 -- a call goes no further than the current bet
 called_fits : (setup : Setup) (older : List Move) (street seat : ℕ) (event : Said) (move : Move) → IsMoveSaid event → resolved_by setup older street (TheSeat seat) event ≡ Moved move → move.act ≡ Called → move.to ≤ current_bet setup older street
 unfolding target_of act_of
-called_fits setup older street seat _ move (fold_said named) is called = absurd (true≢false (ap is_fold (ap act_of is ∙ called)))
+called_fits setup older street seat _ move (fold_said named) is called = absurd (true≢false (ap is_folding (ap act_of is ∙ called)))
 called_fits setup older street seat _ move (call_said named stated) is called =
     let to = ap target_of is in
     omega (arith, to, min-le_left (current_bet setup older street) (all_in setup older street (actor_of named (TheSeat seat))))
-called_fits setup older street seat _ move (raise_said named amount) is called = absurd (true≢false (ap is_raise (ap act_of is ∙ called)))
-called_fits setup older street seat _ move (bring_said named) is called = absurd (true≢false (ap is_bring_in (ap act_of is ∙ called)))
+called_fits setup older street seat _ move (raise_said named amount) is called = absurd (true≢false (ap is_raising (ap act_of is ∙ called)))
+called_fits setup older street seat _ move (bring_said named) is called = absurd (true≢false (ap is_bringing_in (ap act_of is ∙ called)))
 
 module _ (setting : PlainHandContext) (setup : Setup) (rules : Rules) (placed : List Place) (players : (seat : ℕ) → 1 ≤ seat → seat ≤ setup.stacks.seats → seat_of setting.ids (pos seat) ≡ Some seat) where
   pub written_moves : (moves : List Move) → AllByRecursion (IsMoveInRange setup) moves → MovesLaw setup rules placed moves → AllByRecursion (CanBeWritten setting) (traced_moves setup moves)
@@ -60,10 +60,10 @@ module _ (setting : PlainHandContext) (setup : Setup) where
   pub live_folds : (seat : ℕ) (moves : List Move) → is_live moves seat ≡ true → AllByRecursion (HasNotFolded setting setup seat) (traced_moves setup moves)
   live_folds seat [] live = tt
   live_folds seat (move ∷ before) live =
-      let both = by_fold (is_fold move.act && (move.seat == seat)) refl live in
+      let both = by_fold (is_folding move.act && (move.seat == seat)) refl live in
       all_push (HasNotFolded setting setup seat) (traced_moves setup before) (traced_move setup move before) (live_folds seat before both.1) both.0
     where
-      by_fold : (folds : Bool) → (is_fold move.act && (move.seat == seat)) ≡ folds → not (folds || list_any (λ move. is_fold move.act && (move.seat == seat)) before) ≡ true
-          → ((is_fold move.act && (move.seat == seat)) ≡ false) × (is_live before seat ≡ true)
+      by_fold : (folds : Bool) → (is_folding move.act && (move.seat == seat)) ≡ folds → not (folds || list_any (λ move. is_folding move.act && (move.seat == seat)) before) ≡ true
+          → ((is_folding move.act && (move.seat == seat)) ≡ false) × (is_live before seat ≡ true)
       by_fold true e live = absurd (true≢false (sym live))
       by_fold false e live = (e, live)

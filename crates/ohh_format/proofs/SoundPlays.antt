@@ -4,9 +4,9 @@ use Rattle.std.specs.List.{AllByRecursion, flat_map, list_any, range_with_len}
 use Rattle.std.proofs.lemmas.List.Sums.{sum_by-cons}
 use Rattle.canon_laws.proofs.MoveCounts.{move_count, tidy_within}
 use Rattle.canon_laws.proofs.MoveRanges.{moves_in_range}
-use Rattle.card_set.specs.Known.{is_unknown}
+use Rattle.card_set.specs.Known.{hides_card}
 use Rattle.play_event.specs.CanonScript.{dealt_slots, held_slots}
-use Rattle.play_event.specs.PlayedScript.{IsPlayed, is_move}
+use Rattle.play_event.specs.PlayedScript.{IsPlayed, is_move_event}
 use Rattle.play_event.specs.Tidy.{IsTidy}
 use Rattle.play_event.specs.TraceCore.{TraceCore, core_of}
 use Rattle.play_event.specs.declared.hand_limits.TheConstants.{MOST_MOVES}
@@ -41,7 +41,7 @@ use Rattle.play_laws.proofs.FittingPasts.{legal_moves}
 use Rattle.showdown_split.proofs.Flagged.{is_flagged-flag}
 use Rattle.ohh_members.specs.Values.{seat_of}
 use Rattle.ohh_members.specs.declared.dialect.Dialect.{Dialect}
-use Rattle.ohh_writing.specs.Actions.{big_blind_seat, small_blind_seat}
+use Rattle.ohh_writing.specs.Actions.{seat_of_big_blind, seat_of_small_blind}
 use Rattle.ohh_writing.specs.Games.{is_spelled_game}
 use Rattle.ohh_writing.specs.Lines.{Spells}
 use Rattle.ohh_writing.specs.Spelled.{first_unspelled, has_spelled_antes, has_spelled_blinds, has_spelled_sizes, kept_facts, trace_facts, unspelled}
@@ -130,9 +130,9 @@ module _ (setting : PlainHandContext) (setup : Setup) (valid : IsValid setup) (f
   posts_good =
       let small = small_in (setup.stacks.seats == 2) in
       let big = big_in (setup.stacks.seats == 2) in
-      all_both (flat_map (ante_effect setup) (all_seats setup)) (blind_effect setup kinds.SmallBlind (small_blind_seat setup) ∷ blind_effect setup kinds.BigBlind (big_blind_seat setup) ∷ flat_map (straddle_effect setup) (all_seats setup))
+      all_both (flat_map (ante_effect setup) (all_seats setup)) (blind_effect setup kinds.SmallBlind (seat_of_small_blind setup) ∷ blind_effect setup kinds.BigBlind (seat_of_big_blind setup) ∷ flat_map (straddle_effect setup) (all_seats setup))
       (antes_good 1 setup.stacks.seats (omega arith) (omega arith))
-      ((players (small_blind_seat setup) small.0 small.1, blind_few (small_blind_seat setup)), ((players (big_blind_seat setup) big.0 big.1, blind_few (big_blind_seat setup)), straddles_good 1 setup.stacks.seats (omega arith) (omega arith)))
+      ((players (seat_of_small_blind setup) small.0 small.1, blind_few (seat_of_small_blind setup)), ((players (seat_of_big_blind setup) big.0 big.1, blind_few (seat_of_big_blind setup)), straddles_good 1 setup.stacks.seats (omega arith) (omega arith)))
 
 -- ---- cards and moves
 
@@ -142,14 +142,14 @@ record Reads (setup : Setup) (core : TraceCore) : Type 0 where
   no_more : (seat street : ℕ) → 1 ≤ seat → seat ≤ setup.stacks.seats → 2 ≤ street → street ≤ 4 → dealt_slots core.places (Some seat) street ≡ []
   no_board : dealt_slots core.places None 1 ≡ []
   boards_few : (street : ℕ) → length (dealt_slots core.places None street) ≤ 7
-  known : (street : ℕ) → list_any is_unknown (dealt_slots core.places None street) ≡ false
+  known : (street : ℕ) → list_any hides_card (dealt_slots core.places None street) ≡ false
   turn_follows : dealt_slots core.places None 2 ≡ [] → dealt_slots core.places None 3 ≡ []
   river_follows : dealt_slots core.places None 3 ≡ [] → dealt_slots core.places None 4 ≡ []
   quiet : (setting : PlainHandContext) (street : ℕ) → 2 ≤ street → street ≤ 4 → dealt_slots core.places None street ≡ [] → AllByRecursion (IsElsewhere setting setup street) core.moves
   moves : (setting : PlainHandContext) → ((seat : ℕ) → 1 ≤ seat → seat ≤ setup.stacks.seats → seat_of setting.ids (pos seat) ≡ Some seat) → AllByRecursion (CanBeWritten setting) core.moves
   few : length core.moves ≤ MOST_MOVES
   held_few : (seat : ℕ) → length (held_slots core.places seat) ≤ 7
-  shown_known : (seat : ℕ) → list_any (λ other. other == seat) core.shown ≡ true → list_any is_unknown (held_slots core.places seat) ≡ false
+  shown_known : (seat : ℕ) → list_any (λ other. other == seat) core.shown ≡ true → list_any hides_card (held_slots core.places seat) ≡ false
 
 board_some : (setup : Setup) → IsFlopGame setup.code → (street : ℕ) → 2 ≤ street → street ≤ 4 → 1 ≤ board_cards_on setup.code street
 board_some setup is zero low high = absurd (omega (arith, low))
@@ -238,7 +238,7 @@ module _ (keep : Keep) (play : Play) (sound : IsSound play) (spelled : unspelled
       ap (λ (core : TraceCore). length core.moves) sound.trace.core
       ∙ as_many setup (moves_of past)
       ∙ move_count setup (reverse script)
-      ∙ count_reversed is_move script
+      ∙ count_reversed is_move_event script
 
   mucked_folds : (setting : PlainHandContext) (seat : ℕ) → 1 ≤ seat → seat ≤ trace.setup.stacks.seats → flag_of trace.mucked seat ≡ true → AllByRecursion (HasNotFolded setting trace.setup seat) (core_said trace).moves
   mucked_folds setting seat low high mucked =

@@ -3,7 +3,7 @@ use Rattle.std.proofs.Common.{◌≡◌, ℕ, ◌≤◌, Bool, true, false, not,
 use Rattle.std.specs.List.{flat_map, list_any}
 use Rattle.card_set.proofs.FlatMaps.{kept_flat}
 use Rattle.card_set.proofs.NumbersOfRange.{flat_none, flat_same, is_in}
-use Rattle.card_set.specs.Known.{known_cards}
+use Rattle.card_set.specs.Known.{known_among}
 use Rattle.canon_laws.proofs.SameCore.{plain_again}
 use Rattle.play_event.specs.CanonScript.{held_slots, plain_moves, showdown_said, showing_said}
 use Rattle.play_event.specs.TraceCore.{TraceCore}
@@ -55,7 +55,7 @@ module _ (setup : Setup) (past : Past) (trace : Trace) (is : IsTraceOf setup pas
 
   -- what a seat shows, by whether it is shown and mucked
   abbrev by_flags : ℕ → Bool → Bool → List Said
-  by_flags seat shown mucked = if shown then said.Show seat (known_cards (held_slots (core_said trace).places seat)) ∷ [] else (if mucked then said.Muck seat ∷ [] else [])
+  by_flags seat shown mucked = if shown then said.Show seat (known_among (held_slots (core_said trace).places seat)) ∷ [] else (if mucked then said.Muck seat ∷ [] else [])
 
   flags_are : (seat : ℕ) → 1 ≤ seat → seat ≤ count → showing_events trace seat ≡ by_flags seat (is_shown setup past seat) (is_mucked setup past seat)
   flags_are seat low high = ap₂ (by_flags seat) (shown_is seat low high) (mucked_is seat low high)
@@ -65,7 +65,7 @@ module _ (setup : Setup) (past : Past) (trace : Trace) (is : IsTraceOf setup pas
   among seat low high = is_flagged-flag trace.shown seat low ∙ shown_is seat low high
 
   one_live : (seat : ℕ) → is_contested setup past ≡ true → (live : Bool) → is_live (moves_of past) seat ≡ live → (shown : Bool) → is_shown setup past seat ≡ shown
-      → (if live then (if shown then said.Show seat (known_cards (held_slots (core_said trace).places seat)) else said.Muck seat) ∷ [] else []) ≡ by_flags seat shown (is_mucked setup past seat)
+      → (if live then (if shown then said.Show seat (known_among (held_slots (core_said trace).places seat)) else said.Muck seat) ∷ [] else []) ≡ by_flags seat shown (is_mucked setup past seat)
   one_live seat contested true e true f = refl
   one_live seat contested true e false f =
       let mucked : is_mucked setup past seat ≡ true = ap₂ (λ (a b : Bool). a && b && not (is_shown setup past seat)) contested e ∙ ap not f in
@@ -83,7 +83,7 @@ module _ (setup : Setup) (past : Past) (trace : Trace) (is : IsTraceOf setup pas
       kept_flat (is_live (moves_of past)) (showing_said (core_said trace).places (core_said trace).shown) (all_seats setup)
       ∙ flat_same (λ seat. if is_live (moves_of past) seat then showing_said (core_said trace).places (core_said trace).shown seat ∷ [] else []) (showing_events trace) 1 count
       (λ seat low within.
-      ap (λ (b : Bool). if is_live (moves_of past) seat then (if b then said.Show seat (known_cards (held_slots (core_said trace).places seat)) else said.Muck seat) ∷ [] else []) (among seat low (omega (arith, within)))
+      ap (λ (b : Bool). if is_live (moves_of past) seat then (if b then said.Show seat (known_among (held_slots (core_said trace).places seat)) else said.Muck seat) ∷ [] else []) (among seat low (omega (arith, within)))
       ∙ one_live seat e (is_live (moves_of past) seat) refl (is_shown setup past seat) refl
       ∙ sym (flags_are seat low (omega (arith, within))))
   by_contest false e =

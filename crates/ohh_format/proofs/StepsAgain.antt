@@ -5,11 +5,11 @@ use Rattle.std.proofs.lemmas.Bool.{eq-eqb, le-leb, lt-leb, lt-ltb}
 use Rattle.std.proofs.lemmas.List.{append-nil, length-map}
 use Rattle.serde_json.specs.Data.{Data, string}
 use Rattle.card_set.proofs.Counting.{count_by-push}
-use Rattle.card_set.specs.Known.{is_unknown, known_cards}
+use Rattle.card_set.specs.Known.{hides_card, known_among}
 use Rattle.card_set.specs.Spelling.{slot_spelling}
 use Rattle.card_set.specs.declared.card.Slot.{Slot}
 use Rattle.chip_ledger.specs.declared.numbers.TheConstants.{MOST_CHIPS}
-use Rattle.play_event.specs.PlayedScript.{is_move}
+use Rattle.play_event.specs.PlayedScript.{is_move_event}
 use Rattle.play_event.specs.declared.hand_limits.TheConstants.{MOST_MOVES, MOST_OTHER_EVENTS}
 use Rattle.first_fault.specs.declared.limits.TheConstants.{MOST_FILE_MOVES}
 use Rattle.first_fault.specs.Reading.{◌>>=◌, added_from}
@@ -20,7 +20,7 @@ use Rattle.ohh_members.specs.declared.dialect.Dialect.{Dialect}
 use Rattle.ohh_members.specs.declared.fault.ActionMember.TheVariants as members
 use Rattle.ohh_members.specs.declared.fault.MemberFault.{MemberFault}
 use Rattle.ohh_members.specs.declared.fault.Path.{Path}
-use Rattle.ohh_members.specs.Values.{integer_said, number_said, object_said, player_said, required, seat_of, text_said}
+use Rattle.ohh_members.specs.Values.{integer_said, number_said, object_said, player_said, required_value, seat_of, text_said}
 use Rattle.ohh_writing.specs.Actions.{PlainAction}
 use Rattle.ohh_writing.specs.Tree.{action_tree, action_trees}
 use Rattle.ohh_rounds.specs.declared.post.ActionLocation.{ActionLocation}
@@ -30,7 +30,7 @@ use Rattle.ohh_rounds.specs.NamedBlinds.{seat_count}
 use Rattle.ohh_rounds.specs.Actions.{at_action, called, chips_said, dealt_cards, effect_said, event_counted, listed_cards, members_said, posted, raise_by, raised, seat_said, shown, step_said, word_said}
 use Rattle.ohh_rounds.specs.Rounds.{action_added}
 use Rattle.ohh_rounds.specs.HandContext.{PlainHandContext}
-use Rattle.ohh_rounds.specs.Steps.{PlainActionEffect, PlainStep, Posted, Dealt, Happened, dealt_to, has_folded, is_action, moves_in, next_number, others_in}
+use Rattle.ohh_rounds.specs.Steps.{PlainActionEffect, PlainStep, Posted, Dealt, Happened, dealt_to, is_folded, is_action, moves_in, next_number, others_in}
 use Rattle.ohh_members.specs.Words.{word_named}
 use Rattle.ohh_format.proofs.CardLists.{card_texts, cards_again, few_again, slots_again}
 use Rattle.ohh_format.proofs.Effects.{ActionEffect, Bets, Calls, Checks, Deals, Folds, Mucks, Posts, Raises, Shows, action_of}
@@ -45,7 +45,7 @@ told dialect place (Checks seat) = Happened (said.Call (Some seat) (Some 0))
 told dialect place (Calls seat amount left) = Happened (said.Call (Some seat) (Some amount))
 told dialect place (Bets seat amount left) = Happened (said.Raise (Some seat) (spelled.Added amount))
 told dialect place (Raises seat amount left) = Happened (said.Raise (Some seat) (raise_by dialect amount))
-told dialect place (Shows seat cards) = Happened (said.Show seat (known_cards cards))
+told dialect place (Shows seat cards) = Happened (said.Show seat (known_among cards))
 told dialect place (Mucks seat) = Happened (said.Muck seat)
 
 -- the step of what was done, by the number of its action, its round and its index there
@@ -90,11 +90,11 @@ module _ (setting : PlainHandContext) (round : ℕ) where
   pub record HasShow (earlier : List PlainStep) (seat : ℕ) (cards : List Slot) : Type 0 where
     pub other : HasOther earlier seat
     pub few : length cards ≤ 7
-    pub known : list_any is_unknown cards ≡ false
+    pub known : list_any hides_card cards ≡ false
 
   pub record HasMuck (earlier : List PlainStep) (seat : ℕ) : Type 0 where
     pub other : HasOther earlier seat
-    pub live : has_folded seat earlier ≡ false
+    pub live : is_folded seat earlier ≡ false
 
   -- what was done can be read after these steps
   abbrev pub CanBeTold : List PlainStep → ActionEffect → Type 0
@@ -115,14 +115,14 @@ module _ (setting : PlainHandContext) (round : ℕ) where
       ≡ Ok (record { number = next_number earlier; effect = told setting.dialect (record { round = round; action = index }) effect })
 
   post_read : (earlier : List PlainStep) (index m : ℕ) (kind : PostKind) (seat amount left : ℕ) → HasPost earlier seat amount → Read earlier index m (Posts kind seat amount left)
-  unfolding step_said members_said word_said word_named seat_said effect_said posted chips_said object_said required text_said player_said integer_said number_said
+  unfolding step_said members_said word_said word_named seat_said effect_said posted chips_said object_said required_value text_said player_said integer_said number_said
   post_read earlier index m kinds.Ante seat amount left has = rw (has.player, le-leb 0 amount (omega arith), le-leb amount MOST_CHIPS has.few, eq-eqb round 0 has.first, eq-eqb (moves_in earlier) 0 has.early) refl
   post_read earlier index m kinds.SmallBlind seat amount left has = rw (has.player, le-leb 0 amount (omega arith), le-leb amount MOST_CHIPS has.few, eq-eqb round 0 has.first, eq-eqb (moves_in earlier) 0 has.early) refl
   post_read earlier index m kinds.BigBlind seat amount left has = rw (has.player, le-leb 0 amount (omega arith), le-leb amount MOST_CHIPS has.few, eq-eqb round 0 has.first, eq-eqb (moves_in earlier) 0 has.early) refl
   post_read earlier index m kinds.Straddle seat amount left has = rw (has.player, le-leb 0 amount (omega arith), le-leb amount MOST_CHIPS has.few, eq-eqb round 0 has.first, eq-eqb (moves_in earlier) 0 has.early) refl
 
   deal_read : (earlier : List PlainStep) (index m seat : ℕ) (cards : List Slot) → HasDeal earlier seat cards → Read earlier index m (Deals seat cards)
-  unfolding step_said members_said word_said word_named seat_said effect_said dealt_cards listed_cards object_said required text_said player_said integer_said
+  unfolding step_said members_said word_said word_named seat_said effect_said dealt_cards listed_cards object_said required_value text_said player_said integer_said
   deal_read earlier index m seat cards has =
       let path = at_action (record { round = round; action = index }) members.Cards in
       let short : length cards ≤ 7 = omega (arith, has.few) in
@@ -135,12 +135,12 @@ module _ (setting : PlainHandContext) (round : ℕ) where
         slots_again path cards short,
       ) refl
 
-  move_fits : (earlier : List PlainStep) (seat : ℕ) (path : Path) (event : Said) → HasMove earlier seat → is_move event ≡ true → event_counted setting earlier path event ≡ Ok tt
+  move_fits : (earlier : List PlainStep) (seat : ℕ) (path : Path) (event : Said) → HasMove earlier seat → is_move_event event ≡ true → event_counted setting earlier path event ≡ Ok tt
   unfolding event_counted
   move_fits earlier seat path event has is =
       rw (is, lt-leb MOST_MOVES (moves_in earlier) has.moves, lt-leb MOST_FILE_MOVES (setting.file_moves + moves_in earlier) has.file) refl
 
-  other_fits : (earlier : List PlainStep) (seat : ℕ) (path : Path) (event : Said) → HasOther earlier seat → is_move event ≡ false → event_counted setting earlier path event ≡ Ok tt
+  other_fits : (earlier : List PlainStep) (seat : ℕ) (path : Path) (event : Said) → HasOther earlier seat → is_move_event event ≡ false → event_counted setting earlier path event ≡ Ok tt
   unfolding event_counted
   other_fits earlier seat path event has is = rw (is, lt-leb MOST_OTHER_EVENTS (seat_count setting.table + others_in earlier) has.others) refl
 
@@ -148,36 +148,36 @@ module _ (setting : PlainHandContext) (round : ℕ) where
   here index = at_action (record { round = round; action = index }) members.Itself
 
   fold_read : (earlier : List PlainStep) (index m seat : ℕ) → HasMove earlier seat → Read earlier index m (Folds seat)
-  unfolding step_said members_said word_said word_named seat_said effect_said object_said required text_said player_said integer_said here
+  unfolding step_said members_said word_said word_named seat_said effect_said object_said required_value text_said player_said integer_said here
   fold_read earlier index m seat has = rw (has.player, move_fits earlier seat (here index) (said.Fold (Some seat)) has refl) refl
 
   check_read : (earlier : List PlainStep) (index m seat : ℕ) → HasMove earlier seat → Read earlier index m (Checks seat)
-  unfolding step_said members_said word_said word_named seat_said effect_said object_said required text_said player_said integer_said here
+  unfolding step_said members_said word_said word_named seat_said effect_said object_said required_value text_said player_said integer_said here
   check_read earlier index m seat has = rw (has.player, move_fits earlier seat (here index) (said.Call (Some seat) (Some 0)) has refl) refl
 
   call_read : (earlier : List PlainStep) (index m seat amount left : ℕ) → HasChips earlier seat amount → Read earlier index m (Calls seat amount left)
-  unfolding step_said members_said word_said word_named seat_said effect_said called chips_said object_said required text_said player_said integer_said number_said here
+  unfolding step_said members_said word_said word_named seat_said effect_said called chips_said object_said required_value text_said player_said integer_said number_said here
   call_read earlier index m seat amount left has =
       rw (has.move.player, le-leb 0 amount (omega arith), le-leb amount MOST_CHIPS has.few, move_fits earlier seat (here index) (said.Call (Some seat) (Some amount)) has.move refl) refl
 
   bet_read : (earlier : List PlainStep) (index m seat amount left : ℕ) → HasChips earlier seat amount → Read earlier index m (Bets seat amount left)
-  unfolding step_said members_said word_said word_named seat_said effect_said raised chips_said object_said required text_said player_said integer_said number_said here
+  unfolding step_said members_said word_said word_named seat_said effect_said raised chips_said object_said required_value text_said player_said integer_said number_said here
   bet_read earlier index m seat amount left has =
       rw (has.move.player, le-leb 0 amount (omega arith), le-leb amount MOST_CHIPS has.few, move_fits earlier seat (here index) (said.Raise (Some seat) (spelled.Added amount)) has.move refl) refl
 
   raise_read : (earlier : List PlainStep) (index m seat amount left : ℕ) → HasChips earlier seat amount → Read earlier index m (Raises seat amount left)
-  unfolding step_said members_said word_said word_named seat_said effect_said raised chips_said object_said required text_said player_said integer_said number_said here
+  unfolding step_said members_said word_said word_named seat_said effect_said raised chips_said object_said required_value text_said player_said integer_said number_said here
   raise_read earlier index m seat amount left has =
       rw (has.move.player, le-leb 0 amount (omega arith), le-leb amount MOST_CHIPS has.few, move_fits earlier seat (here index) (said.Raise (Some seat) (raise_by setting.dialect amount)) has.move refl) refl
 
   show_read : (earlier : List PlainStep) (index m seat : ℕ) (cards : List Slot) → HasShow earlier seat cards → Read earlier index m (Shows seat cards)
-  unfolding step_said members_said word_said word_named seat_said effect_said shown object_said required text_said player_said integer_said here
+  unfolding step_said members_said word_said word_named seat_said effect_said shown object_said required_value text_said player_said integer_said here
   show_read earlier index m seat cards has =
       let path = at_action (record { round = round; action = index }) members.Cards in
-      rw (has.other.player, cards_again path cards has.few has.known, other_fits earlier seat (here index) (said.Show seat (known_cards cards)) has.other refl) refl
+      rw (has.other.player, cards_again path cards has.few has.known, other_fits earlier seat (here index) (said.Show seat (known_among cards)) has.other refl) refl
 
   muck_read : (earlier : List PlainStep) (index m seat : ℕ) → HasMuck earlier seat → Read earlier index m (Mucks seat)
-  unfolding step_said members_said word_said word_named seat_said effect_said object_said required text_said player_said integer_said here
+  unfolding step_said members_said word_said word_named seat_said effect_said object_said required_value text_said player_said integer_said here
   muck_read earlier index m seat has = rw (has.other.player, has.live, other_fits earlier seat (here index) (said.Muck seat) has.other refl) refl
 
   one_read : (earlier : List PlainStep) (index m : ℕ) (effect : ActionEffect) → CanBeTold earlier effect → Read earlier index m effect

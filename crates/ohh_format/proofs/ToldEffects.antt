@@ -7,7 +7,7 @@ use Rattle.std.proofs.lemmas.Grind.{flat_map-append}
 use Rattle.std.proofs.lemmas.List.{append-nil}
 use Rattle.card_set.proofs.Finding.{list_any-push}
 use Rattle.card_set.proofs.Counting.{count_by-cons, count_by-push}
-use Rattle.card_set.specs.Known.{is_unknown}
+use Rattle.card_set.specs.Known.{hides_card}
 use Rattle.card_set.specs.declared.card.Slot.{Slot}
 use Rattle.chip_ledger.specs.declared.numbers.TheConstants.{MOST_CHIPS}
 use Rattle.play_event.specs.declared.hand_limits.TheConstants.{MOST_MOVES, MOST_OTHER_EVENTS}
@@ -17,7 +17,7 @@ use Rattle.ohh_members.specs.Values.{seat_of}
 use Rattle.ohh_rounds.specs.NamedBlinds.{seat_count}
 use Rattle.ohh_rounds.specs.declared.post.ActionLocation.{ActionLocation}
 use Rattle.ohh_rounds.specs.HandContext.{PlainHandContext}
-use Rattle.ohh_rounds.specs.Steps.{PlainStep, dealt_in, dealt_to, has_folded, is_action, is_fold_of, is_move_effect, is_other_effect, moves_in, others_in}
+use Rattle.ohh_rounds.specs.Steps.{PlainStep, dealt_in, dealt_to, is_action, is_fold_of, is_folded, is_move_effect, is_other_effect, moves_in, others_in}
 use Rattle.ohh_format.proofs.Effects.{ActionEffect, Bets, Calls, Checks, Deals, Folds, Mucks, Posts, Raises, Shows}
 use Rattle.ohh_format.proofs.StepsAgain.{AllTold, HasMove, step_of, steps_of, told}
 use Rattle.first_fault.specs.Numbers.{saturated}
@@ -258,12 +258,12 @@ module _ (setting : PlainHandContext) (round : ℕ) where
   IsGoodShow before (Calls seat amount left) = ⊥
   IsGoodShow before (Bets seat amount left) = ⊥
   IsGoodShow before (Raises seat amount left) = ⊥
-  IsGoodShow before (Shows seat cards) = (seat_of setting.ids (pos seat) ≡ Some seat) × (length cards ≤ 7) × (list_any is_unknown cards ≡ false)
-  IsGoodShow before (Mucks seat) = (seat_of setting.ids (pos seat) ≡ Some seat) × (has_folded seat before ≡ false)
+  IsGoodShow before (Shows seat cards) = (seat_of setting.ids (pos seat) ≡ Some seat) × (length cards ≤ 7) × (list_any hides_card cards ≡ false)
+  IsGoodShow before (Mucks seat) = (seat_of setting.ids (pos seat) ≡ Some seat) × (is_folded seat before ≡ false)
 
   -- nobody folded between
   abbrev NoFolds : List PlainStep → List PlainStep → Type 0
-  NoFolds before earlier = (seat : ℕ) → has_folded seat before ≡ false → has_folded seat earlier ≡ false
+  NoFolds before earlier = (seat : ℕ) → is_folded seat before ≡ false → is_folded seat earlier ≡ false
 
   no_more : (before earlier : List PlainStep) (step : PlainStep) → ((seat : ℕ) → is_fold_of seat step.effect ≡ false) → NoFolds before earlier → NoFolds before (earlier ++ step ∷ [])
   no_more before earlier step none fine seat live =

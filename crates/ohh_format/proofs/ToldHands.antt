@@ -19,7 +19,7 @@ use Rattle.ohh_members.specs.Players.{seated_said}
 use Rattle.ohh_reading.specs.Notes.{notes_said}
 use Rattle.ohh_reading.specs.Pots.{pots_said}
 use Rattle.ohh_rounds.specs.Rounds.{steps_said}
-use Rattle.ohh_members.specs.Values.{field, number_said, object_said, or_wrong, required, text_said, wrong}
+use Rattle.ohh_members.specs.Values.{member_at, number_said, object_said, or_wrong, required_value, text_said, wrong}
 use Rattle.ohh_members.specs.declared.blinds.Blinds.{Blinds}
 use Rattle.ohh_members.specs.declared.dialect.Dialect.{Dialect}
 use Rattle.ohh_members.specs.declared.fault.MemberFault.{MemberFault}
@@ -39,7 +39,7 @@ use Rattle.ohh_rounds.specs.HandContext.{PlainHandContext}
 use Rattle.ohh_rounds.specs.Steps.{PlainStep, moves_in}
 use Rattle.ohh_reading.specs.Blocks.{blocks_of}
 use Rattle.ohh_reading.specs.Hand.{hand_said, setting_of}
-use Rattle.ohh_reading.specs.Reading.{Wrong, found_said, hands_said, in_hand, numbered_hand, object_of, past_hands, reading, tree_of, tree_said, wrong_in}
+use Rattle.ohh_reading.specs.Reading.{Wrong, found_said, hands_said, numbered_hand, object_of, past_hands, reading, result_in_hand, tree_of, tree_said, wrong_in}
 use Rattle.ohh_reading.specs.Sizes.{sizes_of}
 use Rattle.first_fault.proofs.Thread.{bound}
 use Rattle.hand_canon.specs.PlainHands.{PlainHand, PlainSetup}
@@ -66,9 +66,9 @@ IsOfSpelled code = is_spelled_game code ≡ true
 game_told : (ohh : Data) → IfOk (game_said ohh) IsOfSpelled
 unfolding game_said
 game_told ohh =
-    bound IsOfSpelled (required paths.GameType ohh >>= text_said paths.GameType) _ (λ game.
-    bound IsOfSpelled (required paths.BetLimit ohh >>= object_said paths.BetLimit) _ (λ limits.
-    bound IsOfSpelled (required paths.BetType limits >>= text_said paths.BetType) _ (λ limit.
+    bound IsOfSpelled (required_value paths.GameType ohh >>= text_said paths.GameType) _ (λ game.
+    bound IsOfSpelled (required_value paths.BetLimit ohh >>= object_said paths.BetLimit) _ (λ limits.
+    bound IsOfSpelled (required_value paths.BetType limits >>= text_said paths.BetType) _ (λ limit.
     named_told whats.UnsupportedGame paths.GameType (bytes_eq game (codes "Holdem") && bytes_eq limit (codes "FL")) (bytes_eq game (codes "Holdem") && bytes_eq limit (codes "NL")) (bytes_eq game (codes "Omaha") && bytes_eq limit (codes "PL")) (bytes_eq game (codes "OmahaHiLo") && bytes_eq limit (codes "FL")))))
 
 number_told : (least most : ℕ) (path : Path) (value : Data) → IfOk (number_said least most path value) (λ n. least ≤ n)
@@ -108,10 +108,10 @@ fit_told code small big least = by_order (nat_lt big small) refl (is_fixed_game 
 blinds_told : (code : Code) (ohh : Data) → IfOk (blinds_said code ohh) AreInOrder
 unfolding blinds_said
 blinds_told code ohh =
-    bound AreInOrder (read_if (number_said 0 MOST_CHIPS paths.AnteAmount) (field paths.AnteAmount ohh)) _ (λ ante.
-    bound_by (λ n. 1 ≤ n) AreInOrder (required paths.SmallBlindAmount ohh >>= number_said 1 MOST_CHIPS paths.SmallBlindAmount) _
-    (bound (λ n. 1 ≤ n) (required paths.SmallBlindAmount ohh) (number_said 1 MOST_CHIPS paths.SmallBlindAmount) (λ value. number_told 1 MOST_CHIPS paths.SmallBlindAmount value)) (λ small least.
-    bound AreInOrder (required paths.BigBlindAmount ohh >>= number_said 1 MOST_CHIPS paths.BigBlindAmount) _ (λ big. fit_told code small big least)))
+    bound AreInOrder (read_if (number_said 0 MOST_CHIPS paths.AnteAmount) (member_at paths.AnteAmount ohh)) _ (λ ante.
+    bound_by (λ n. 1 ≤ n) AreInOrder (required_value paths.SmallBlindAmount ohh >>= number_said 1 MOST_CHIPS paths.SmallBlindAmount) _
+    (bound (λ n. 1 ≤ n) (required_value paths.SmallBlindAmount ohh) (number_said 1 MOST_CHIPS paths.SmallBlindAmount) (λ value. number_told 1 MOST_CHIPS paths.SmallBlindAmount value)) (λ small least.
+    bound AreInOrder (required_value paths.BigBlindAmount ohh >>= number_said 1 MOST_CHIPS paths.BigBlindAmount) _ (λ big. fit_told code small big least)))
 
 record IsToldFront (front : PlainFront) : Type 0 where
   game : is_spelled_game front.code ≡ true
@@ -185,9 +185,9 @@ hand_told dialect file_moves place ohh =
 
 tree_told : (dialect : Dialect) (file_moves place : ℕ) (tree : Data) → IfOk (tree_said dialect file_moves place tree) IsFoundTold
 unfolding tree_said
-tree_told dialect file_moves place tree = bound IsFoundTold (object_of (field paths.Ohh tree)) _ (λ ohh. hand_told dialect file_moves place ohh)
+tree_told dialect file_moves place tree = bound IsFoundTold (object_of (member_at paths.Ohh tree)) _ (λ ohh. hand_told dialect file_moves place ohh)
 
-one_told : (number : ℕ) (read : Result (PlainHand × ℕ) MemberFault) → IfOk read IsFoundTold → IfOk (in_hand number read) IsFoundTold
+one_told : (number : ℕ) (read : Result (PlainHand × ℕ) MemberFault) → IfOk read IsFoundTold → IfOk (result_in_hand number read) IsFoundTold
 one_told number (Ok found) is = is
 one_told number (Err fault) is = tt
 

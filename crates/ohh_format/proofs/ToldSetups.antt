@@ -10,7 +10,7 @@ use Rattle.chip_ledger.specs.SeatRow.{amount_of, amounts_in}
 use Rattle.chip_ledger.specs.declared.seat_row.SeatRow.{SeatRow}
 use Rattle.play_event.specs.Seats.{all_seats}
 use Rattle.play_event.specs.Streets.{limit_of}
-use Rattle.play_event.specs.ValidSetup.{is_fixed}
+use Rattle.play_event.specs.ValidSetup.{is_fixed_limit}
 use Rattle.play_event.specs.declared.setup.Setup.{Setup}
 use Rattle.ohh_writing.specs.Spelled.{big_blind, greatest_ante, has_no_ante, has_spelled_antes, has_spelled_blinds, has_spelled_sizes, has_spelled_straddles, has_two_blinds, is_covered_straddle, is_whole_ante}
 use Rattle.ohh_rounds.proofs.Stacks.{seats_in}
@@ -153,9 +153,9 @@ module _ (setup : Setup) (is : IsToldSetup (plain_setup setup)) where
   -- ---- sizes
 
   pub sizes_spelled : has_spelled_sizes setup ≡ true
-  sizes_spelled = by_fixed (is_fixed (limit_of setup.code)) refl
+  sizes_spelled = by_fixed (is_fixed_limit (limit_of setup.code)) refl
     where
-      by_fixed : (fixed : Bool) → is_fixed (limit_of setup.code) ≡ fixed → (if fixed then (setup.small_bet == big_blind setup) && (setup.big_bet == 2 * big_blind setup) else setup.min_bet == big_blind setup) ≡ true
+      by_fixed : (fixed : Bool) → is_fixed_limit (limit_of setup.code) ≡ fixed → (if fixed then (setup.small_bet == big_blind setup) && (setup.big_bet == 2 * big_blind setup) else setup.min_bet == big_blind setup) ≡ true
       by_fixed true e =
           let here = is.sizes ∙ ap (sizes_by table.big_blind) e in
           let small : setup.small_bet ≡ table.big_blind = ap (λ (sizes : Sizes). sizes.small_bet) here in

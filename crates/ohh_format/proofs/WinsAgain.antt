@@ -11,7 +11,7 @@ use Rattle.chip_ledger.specs.declared.seat_row.TheConstants.{MOST_AMOUNT}
 use Rattle.chip_ledger.specs.Seat.{seats_of}
 use Rattle.chip_ledger.specs.SeatRow.{amount_of}
 use Rattle.first_fault.specs.Reading.{added_from}
-use Rattle.ohh_members.specs.Values.{required, number_said, integer_said, object_said, player_said, seat_from, seat_of}
+use Rattle.ohh_members.specs.Values.{required_value, number_said, integer_said, object_said, player_said, seat_from, seat_of}
 use Rattle.ohh_reading.specs.Pots.{summed, win_added, win_said}
 use Rattle.ohh_reading.specs.Won.{PlainWin, won_by}
 use Rattle.ohh_format.proofs.SameNumbers.{other_number}
@@ -44,7 +44,7 @@ wins_plain share seats = flat_map (win_plain share) seats
 module _ (count : ℕ) (pot : ℕ) where
   pub win_again : (earlier : List PlainWin) (index seat amount : ℕ) → 1 ≤ seat → seat ≤ count → won_by seat earlier + amount ≤ MOST_AMOUNT
       → win_added (ids_written count) pot earlier index (win_object seat amount) ≡ Ok (earlier ++ record { seat = seat; chips = amount } ∷ [])
-  unfolding win_added win_said object_said required player_said integer_said number_said summed
+  unfolding win_added win_said object_said required_value player_said integer_said number_said summed
   win_again earlier index seat amount first last few =
       rw (seat_again seat count first last, le-leb 0 amount (omega arith), le-leb amount MOST_AMOUNT (omega (arith, few)), le-leb (won_by seat earlier + amount) MOST_AMOUNT few) refl
 

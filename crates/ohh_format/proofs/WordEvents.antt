@@ -5,14 +5,14 @@ use Rattle.std.proofs.Common.{◌≡◌, ℕ, ◌-◌, ◌≤◌, Bool, true, fa
 use Rattle.std.specs.List.{AllByRecursion}
 use Rattle.std.proofs.lemmas.Bool.{eq-eqb, not_from_true}
 use Rattle.play_event.specs.CanonScript.{act_named, move_named, plain_move}
-use Rattle.play_event.specs.PlayedScript.{is_move}
+use Rattle.play_event.specs.PlayedScript.{is_move_event}
 use Rattle.play_event.specs.Amounts.{call_target, raise_target}
 use Rattle.play_event.specs.Chips.{street_chips}
 use Rattle.play_event.specs.Due.{turn}
 use Rattle.play_event.specs.Laws.{AreLegal}
 use Rattle.play_event.specs.MoveReasons.{chips_to_call, is_other_seat, is_undecided}
 use Rattle.play_event.specs.Openers.{InTurn}
-use Rattle.play_event.specs.Past.{Act, BroughtIn, Called, Folded, Move, Past, Raised, is_bring_in, moves_of}
+use Rattle.play_event.specs.Past.{Act, BroughtIn, Called, Folded, Move, Past, Raised, is_bringing_in, moves_of}
 use Rattle.play_event.specs.Reasons.{first_reason, is_due_kind, is_over, why}
 use Rattle.play_event.specs.Said as said
 use Rattle.play_event.specs.Said.{Said}
@@ -40,13 +40,13 @@ use Rattle.canon_laws.proofs.SameEvents.{AreSame, IsNewest, IsSame, newest, one_
 -- an event that is not a move stays, and a move has its word.
 pub data InWords (dialect : Dialect) : List Said → List Move → List Said → Type 0 where
   nothing : InWords dialect [] [] []
-  stays : (event : Said) (events : List Said) (moves : List Move) (words : List Said) → is_move event ≡ false → InWords dialect events moves words → InWords dialect (event ∷ events) moves (event ∷ words)
+  stays : (event : Said) (events : List Said) (moves : List Move) (words : List Said) → is_move_event event ≡ false → InWords dialect events moves words → InWords dialect (event ∷ events) moves (event ∷ words)
   word : (move : TracedMove) (events : List Said) (moves : List Move) (words : List Said) → InWords dialect events moves words
       → InWords dialect (move_named (plain_move move) ∷ events) (plain_move move ∷ moves) (move_again dialect move.act move ++ words)
 
 -- a move that has a word: not a bring-in
 abbrev pub HasWord : Move → Type 0
-HasWord move = is_bring_in move.act ≡ false
+HasWord move = is_bringing_in move.act ≡ false
 
 -- why a call is illegal, by whether its kind may come and whether it states other chips than it
 -- adds
@@ -135,7 +135,7 @@ word_more dialect setup rules events words move older valid before same has plac
     one_more setup rules events words (said.Raise (Some move.seat) (spelled.To move.to)) (said.Raise (Some move.seat) (raise_again dialect move)) same
     (raise_same setup rules past move.seat move.to (raise_again dialect move) (raise_goes dialect setup (moves_of past) (turn setup past).0 move placed.from up) legal)
 word_more dialect setup rules events words move older valid before same has placed BroughtIn is newest legal =
-    absurd (true≢false (sym (ap is_bring_in is) ∙ has))
+    absurd (true≢false (sym (ap is_bringing_in is) ∙ has))
 
 -- events in words are legal, and lead to the same past
 pub words_same : (dialect : Dialect) (setup : Setup) (rules : Rules) (events : List Said) (moves : List Move) (words : List Said) → IsValid setup

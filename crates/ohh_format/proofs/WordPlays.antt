@@ -17,7 +17,7 @@ use Rattle.play_event.specs.Past.{Move, Past, moves_before, moves_of}
 use Rattle.play_event.specs.Places.{Place}
 use Rattle.play_event.specs.Said.{Said}
 use Rattle.play_event.specs.Scripts.{past_at_end, past_of}
-use Rattle.play_event.specs.Streets.{is_stud}
+use Rattle.play_event.specs.Streets.{is_stud_game}
 use Rattle.play_event.specs.Table.{places_of}
 use Rattle.play_event.specs.Trace.{TracedMove}
 use Rattle.play_event.specs.ValidSetup.{IsValid}
@@ -37,7 +37,7 @@ use Rattle.canon_laws.proofs.LastPast.{before_fifth}
 -- ---- no bring-ins
 
 -- so each move has a word
-have_words : (setup : Setup) (rules : Rules) (placed : List Place) (moves : List Move) → is_stud setup.code ≡ false → MovesLaw setup rules placed moves → AllByRecursion HasWord moves
+have_words : (setup : Setup) (rules : Rules) (placed : List Place) (moves : List Move) → is_stud_game setup.code ≡ false → MovesLaw setup rules placed moves → AllByRecursion HasWord moves
 have_words setup rules placed [] stud law = tt
 have_words setup rules placed (move ∷ older) stud law =
     (no_bring setup rules older move law.0.event law.0.due stud law.0.is_move law.0.is_due law.0.none law.0.place, have_words setup rules placed older stud law.1)
@@ -69,7 +69,7 @@ in_words setup rules script events words has same legal =
       same = ap (core_of setup) same ∙ has.same;
     }
 
-module _ (dialect : Dialect) (setup : Setup) (rules : Rules) (script : List Said) (valid : IsValid setup) (played : IsPlayed setup rules script) (is : IsFlopGame setup.code) (stud : is_stud setup.code ≡ false) where
+module _ (dialect : Dialect) (setup : Setup) (rules : Rules) (script : List Said) (valid : IsValid setup) (played : IsPlayed setup rules script) (is : IsFlopGame setup.code) (stud : is_stud_game setup.code ≡ false) where
   abbrev past : Past
   past = past_at_end setup script
 

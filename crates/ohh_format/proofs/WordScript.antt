@@ -3,9 +3,9 @@ use Rattle.std.proofs.Common.{◌≡◌, ℕ, ◌<◌, Bool, true, false, ◌==�
 use Rattle.std.specs.List.{flat_map, list_any, range_with_len}
 use Rattle.std.proofs.lemmas.Bool.{eqb-true, ltb-true, ne_eqb}
 use Rattle.std.proofs.lemmas.List.{append-nil, flat_map_more, reverse-append}
-use Rattle.card_set.specs.Known.{known_cards}
+use Rattle.card_set.specs.Known.{known_among}
 use Rattle.play_event.specs.CanonScript.{held_slots, move_named, plain_move, showdown_said, showing_said, street_said}
-use Rattle.play_event.specs.PlayedScript.{is_move}
+use Rattle.play_event.specs.PlayedScript.{is_move_event}
 use Rattle.play_event.specs.Past.{Act, BroughtIn, Called, Folded, Move, Raised, moves_before}
 use Rattle.play_event.specs.Said.{Muck, Said, Show}
 use Rattle.play_event.specs.Seats.{all_seats, is_live, live_count}
@@ -24,7 +24,7 @@ showing_no : (placed : List TracedPlace) (shown : List ℕ) (seats : List ℕ) �
 showing_no placed shown [] = tt
 showing_no placed shown (seat ∷ seats) = (by_shown (list_any (λ other. other == seat) shown), showing_no placed shown seats)
   where
-    by_shown : (shows : Bool) → is_move (if shows then Show seat (known_cards (held_slots placed seat)) else Muck seat) ≡ false
+    by_shown : (shows : Bool) → is_move_event (if shows then Show seat (known_among (held_slots placed seat)) else Muck seat) ≡ false
     by_shown true = refl
     by_shown false = refl
 

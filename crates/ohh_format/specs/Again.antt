@@ -21,7 +21,7 @@ use Rattle.hand_canon.specs.declared.trace.Play.{Play}
 use Rattle.hand_canon.specs.declared.trace.Trace.{Trace}
 use Rattle.ohh_members.specs.declared.dialect.Dialect.{Dialect}
 use Rattle.ohh_members.specs.declared.dialect.Dialect.TheVariants as dialects
-use Rattle.ohh_writing.specs.Actions.{has_known, posts}
+use Rattle.ohh_writing.specs.Actions.{has_known_card, posts}
 use Rattle.ohh_writing.specs.Moment.{moment_of}
 use Rattle.ohh_writing.specs.Seating.{numbers_spelled}
 use Rattle.first_fault.specs.Numbers.{saturated}
@@ -77,7 +77,7 @@ script_again dialect trace =
 -- an action of the format has the event: the board is dealt by a round instead, and hole cards that
 -- are all unknown are left out
 abbrev pub has_action : Said → Bool
-has_action (said.Hole seat slots) = has_known slots
+has_action (said.Hole seat slots) = has_known_card slots
 has_action (said.Board cards) = false
 has_action (said.Fold actor) = true
 has_action (said.Call actor stated) = true

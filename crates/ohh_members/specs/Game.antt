@@ -4,13 +4,13 @@ use Rattle.serde_json.specs.Data.{Data}
 use Rattle.play_event.specs.declared.code.Code.{Code}
 use Rattle.play_event.specs.declared.code.Code.TheVariants as games
 use Rattle.play_event.specs.Games.{game_of}
-use Rattle.play_event.specs.Streets.{is_stud}
+use Rattle.play_event.specs.Streets.{is_stud_game}
 use Rattle.first_fault.specs.Reading.{◌>>=◌}
 use Rattle.ohh_members.specs.declared.fault.MemberFaultKind.TheVariants as whats
 use Rattle.ohh_members.specs.declared.fault.Path.{Path}
 use Rattle.ohh_members.specs.declared.fault.Path.TheVariants as paths
 use Rattle.ohh_members.specs.declared.fault.MemberFault.{MemberFault}
-use Rattle.ohh_members.specs.Values.{or_wrong, required, text_said, object_said}
+use Rattle.ohh_members.specs.Values.{or_wrong, required_value, text_said, object_said}
 
 -- the four supported games: a type and a limit
 abbrev pub game_named : List ℕ → List ℕ → Option Code
@@ -24,15 +24,15 @@ game_named game limit =
 -- a supported game is played by up to ten seats, and has blinds
 pub record IsReadGame (code : Code) : Type 0 where
   pub seats : (game_of code).seats ≡ 10
-  pub blinds : is_stud code ≡ false
+  pub blinds : is_stud_game code ≡ false
 
 -- the text of a required member
 abbrev pub word_said : Path → Data → Result (List ℕ) MemberFault
-word_said path value = required path value >>= text_said path
+word_said path value = required_value path value >>= text_said path
 
 -- the object with the limit
 abbrev pub limits_said : Data → Result Data MemberFault
-limits_said ohh = required paths.BetLimit ohh >>= object_said paths.BetLimit
+limits_said ohh = required_value paths.BetLimit ohh >>= object_said paths.BetLimit
 
 -- the game
 unfoldable pub game_said : Data → Result Code MemberFault

@@ -15,7 +15,7 @@ use Rattle.ohh_members.specs.declared.fault.Path.{Path}
 use Rattle.ohh_members.specs.declared.fault.Path.TheVariants as paths
 use Rattle.ohh_members.specs.declared.fault.MemberFault.{MemberFault}
 use Rattle.ohh_members.specs.declared.player.Player.{Player}
-use Rattle.ohh_members.specs.Values.{fault_at, wrong, or_wrong, field, required, text_said, object_said, list_said, number_said, integer_said}
+use Rattle.ohh_members.specs.Values.{member_fault, wrong, or_wrong, member_at, required_value, text_said, object_said, list_said, number_said, integer_said}
 
 -- a player: the id, the seat at the table, the name if there is one, and the starting stack
 pub record PlainPlayer : Type 0 where
@@ -49,13 +49,14 @@ has_seat seat players = list_any (λ player. seat == player.seat) players
 -- the id of a player, different from those before it
 unfoldable pub id_said : List PlainPlayer → ℕ → Data → Result ℤ MemberFault
 id_said earlier index player = do
-  id ← required (of_player index members.Id) player >>= integer_said (of_player index members.Id)
+  id ← required_value (of_player index members.Id) player
+      >>= integer_said (of_player index members.Id)
   if has_id id earlier then wrong whats.BadPlayer (of_player index members.Id) else Ok id
 
 -- the seat of a player at the table, different from those before it
 unfoldable pub seat_said : List PlainPlayer → ℕ → Data → Result ℕ MemberFault
 seat_said earlier index player = do
-  seat ← required (of_player index members.Seat) player
+  seat ← required_value (of_player index members.Seat) player
       >>= number_said 1 255 (of_player index members.Seat)
   if has_seat seat earlier then wrong whats.BadPlayer (of_player index members.Seat) else Ok seat
 
@@ -63,18 +64,18 @@ seat_said earlier index player = do
 unfoldable pub short_text_said : Path → Data → Result (List ℕ) MemberFault
 short_text_said path value =
     text_said path value
-    >>= few MOST_TEXT_BYTES (fault_at (whats.TooMany quantities.TextBytes) path)
+    >>= few MOST_TEXT_BYTES (member_fault (whats.TooMany quantities.TextBytes) path)
 
 -- the name of a player, if it has one
 abbrev pub name_said : ℕ → Data → Result (Option (List ℕ)) MemberFault
 name_said index player =
     read_if (short_text_said (of_player index members.Name))
-    (field (of_player index members.Name) player)
+    (member_at (of_player index members.Name) player)
 
 -- the starting stack of a player
 unfoldable pub stack_said : ℕ → Data → Result ℕ MemberFault
 stack_said index player =
-    required (of_player index members.StartingStack) player
+    required_value (of_player index members.StartingStack) player
     >>= number_said 1 MOST_CHIPS (of_player index members.StartingStack)
 
 -- a player, checked against those before it
@@ -95,7 +96,7 @@ player_added earlier index value =
 -- two to ten players in the order in which they are listed
 unfoldable pub players_said : Data → Result (List PlainPlayer) MemberFault
 players_said ohh = do
-  items ← required paths.Players ohh >>= list_said paths.Players
+  items ← required_value paths.Players ohh >>= list_said paths.Players
   if nat_le 2 (length items) && nat_le (length items) 10
       then added_from player_added [] 0 items
       else wrong whats.BadPlayer paths.Players
@@ -107,7 +108,7 @@ player_at seat players = find (λ player. int_eq (pos player.seat) seat) players
 -- the player on the button
 unfoldable pub button_said : List PlainPlayer → Data → Result PlainPlayer MemberFault
 button_said players ohh = do
-  seat ← required paths.DealerSeat ohh >>= integer_said paths.DealerSeat
+  seat ← required_value paths.DealerSeat ohh >>= integer_said paths.DealerSeat
   or_wrong whats.BadPlayer paths.DealerSeat (player_at seat players)
 
 -- of two players, the one in the lower seat

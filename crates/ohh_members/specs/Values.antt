@@ -16,24 +16,24 @@ use Rattle.ohh_members.specs.declared.fault.MemberFault.{MemberFault}
 use Rattle.ohh_members.specs.Paths.{member_name, card_path}
 
 -- a fault at a path
-abbrev pub fault_at : MemberFaultKind → Path → MemberFault
-fault_at what path = record { what = what; path = path }
+abbrev pub member_fault : MemberFaultKind → Path → MemberFault
+member_fault what path = record { what = what; path = path }
 
 -- what is wrong at a path
 abbrev pub wrong : {A : Type 0} → MemberFaultKind → Path → Result A MemberFault
-wrong what path = Err (fault_at what path)
+wrong what path = Err (member_fault what path)
 
 -- a value that is there, or else a fault
 abbrev pub or_wrong : {A : Type 0} → MemberFaultKind → Path → Option A → Result A MemberFault
-or_wrong what path found = or_fault (fault_at what path) found
+or_wrong what path found = or_fault (member_fault what path) found
 
 -- the value of the member that a path ends with, if the object has one
-abbrev pub field : Path → Data → Option Data
-field path value = get (member_name path) value
+abbrev pub member_at : Path → Data → Option Data
+member_at path value = get (member_name path) value
 
 -- the value of a required member
-unfoldable pub required : Path → Data → Result Data MemberFault
-required path value = or_wrong whats.MissingMember path (field path value)
+unfoldable pub required_value : Path → Data → Result Data MemberFault
+required_value path value = or_wrong whats.MissingMember path (member_at path value)
 
 -- the text that a value is
 abbrev pub text_of : Data → Option (List ℕ)
@@ -78,9 +78,9 @@ numeral_of _ = NoNumber
 abbrev pub number_faults : Path → NumberFaults MemberFault
 number_faults path =
     record {
-      out_of_range = fault_at whats.AmountLimit path;
-      not_whole = fault_at whats.AmountNotWhole path;
-      no_number = fault_at whats.WrongType path;
+      out_of_range = member_fault whats.AmountLimit path;
+      not_whole = member_fault whats.AmountNotWhole path;
+      no_number = member_fault whats.WrongType path;
     }
 
 -- a whole number from least to most: an amount, or another number
@@ -134,7 +134,7 @@ card_said path value =
 
 -- a list of at most seven cards, before its items are looked at
 unfoldable pub few_said : Path → Data → Result (List Data) MemberFault
-few_said path value = list_said path value >>= few 7 (fault_at whats.WrongType path)
+few_said path value = list_said path value >>= few 7 (member_fault whats.WrongType path)
 
 -- items one after the other, each read with its index in the list, from 0
 abbrev pub each_item : {D A : Type 0} → (ℕ → D → Result A MemberFault) → List D

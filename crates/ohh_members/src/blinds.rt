@@ -48,7 +48,7 @@ pub fn read_blinds(ohh: &Value, code: Code) -> Result<Blinds, ReadError<MemberFa
 fn read_ante(ohh: &Value) -> Result<Option<u64>, ReadError<MemberFault>>
     ensures { Gives (λ ante. ante) result
         (read_if (number_said 0 MOST_CHIPS paths.AnteAmount)
-        (values.field paths.AnteAmount (view ohh.now))) }
+        (values.member_at paths.AnteAmount (view ohh.now))) }
 {
     match field(ohh, Path::AnteAmount) {
         Some(value) => Ok(Some(read_number(value, 0, MOST_CHIPS, Path::AnteAmount)?)),

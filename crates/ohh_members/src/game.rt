@@ -21,7 +21,7 @@ pub fn read_game(ohh: &Value) -> Result<Code, ReadError<MemberFault>>
     let game = read_word(ohh, Path::GameType)?;
     let limits = read_limits(ohh)?;
     let limit = read_word(limits, Path::BetType)?;
-    match game_named(game, limit) {
+    match parse_game(game, limit) {
         Some(code) => Ok(code),
         None => Err(fault_at(MemberFaultKind::UnsupportedGame, Path::GameType)),
     }
@@ -42,7 +42,7 @@ fn read_word(value: &Value, path: Path) -> Result<&str, ReadError<MemberFault>>
 }
 
 // The game of a type and a limit.
-fn game_named(game: &str, limit: &str) -> Option<Code>
+fn parse_game(game: &str, limit: &str) -> Option<Code>
     ensures said { result ≡ games.game_named game.now limit.now }
     ensures read { IfSome result IsReadGame }
 {

@@ -107,14 +107,14 @@ fn read_id(earlier: &[Player], index: u64, player: &Value) -> Result<i128, ReadE
         member: PlayerMember::Id,
     };
     let id = read_integer(required(player, path)?, path)?;
-    if has_id(id, earlier) {
+    if is_id_taken(id, earlier) {
         return Err(fault_at(MemberFaultKind::BadPlayer, path));
     }
     Ok(id)
 }
 
 // Whether some player has the id.
-fn has_id(id: i128, players: &[Player]) -> bool
+fn is_id_taken(id: i128, players: &[Player]) -> bool
     ensures { result ≡ player_list.has_id id (map plain_player players.now) }
 {
     for player in players {
@@ -137,14 +137,14 @@ fn read_seat(earlier: &[Player], index: u64, player: &Value) -> Result<u8, ReadE
         member: PlayerMember::Seat,
     };
     let seat = read_number(required(player, path)?, 1, 255, path)? as u8;
-    if has_seat(seat, earlier) {
+    if is_seat_taken(seat, earlier) {
         return Err(fault_at(MemberFaultKind::BadPlayer, path));
     }
     Ok(seat)
 }
 
 // Whether some player has the seat.
-fn has_seat(seat: u8, players: &[Player]) -> bool
+fn is_seat_taken(seat: u8, players: &[Player]) -> bool
     ensures { result ≡ player_list.has_seat seat (map plain_player players.now) }
 {
     for player in players {

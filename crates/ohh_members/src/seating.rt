@@ -42,14 +42,14 @@ fn read_button<'a>(
         (button_said (map plain_player players.now) (view ohh.now)) }
 {
     let seat = read_integer(required(ohh, Path::DealerSeat)?, Path::DealerSeat)?;
-    match player_at(seat, players) {
+    match find_player(seat, players) {
         Some(player) => Ok(player),
         None => Err(fault_at(MemberFaultKind::BadPlayer, Path::DealerSeat)),
     }
 }
 
 // The player in a seat of the table.
-fn player_at<'a>(seat: i128, players: &[Player<'a>]) -> Option<Player<'a>>
+fn find_player<'a>(seat: i128, players: &[Player<'a>]) -> Option<Player<'a>>
     ensures { option_map plain_player result
         ≡ player_list.player_at seat (map plain_player players.now) }
 {
@@ -74,14 +74,14 @@ fn sit<'a>(
     let mut found = Vec::new(alloc);
     let mut last = button;
     for _seat in 0..players.len() {
-        last = next_player(players, last);
+        last = find_next_player(players, last);
         found.try_push(last)?;
     }
     Ok(found)
 }
 
 // The player in the next higher seat, going round.
-fn next_player<'a>(players: &[Player<'a>], player: Player<'a>) -> Player<'a>
+fn find_next_player<'a>(players: &[Player<'a>], player: Player<'a>) -> Player<'a>
     ensures { plain_player result
         ≡ player_list.next_player (map plain_player players.now) (plain_player player.entry) }
 {
@@ -114,14 +114,14 @@ fn lower_above<'a>(found: Option<Player<'a>>, player: Player<'a>, seat: u8) -> O
         (above seat (plain_player player.entry ∷ rest)) }
 {
     if seat < player.seat {
-        lower(found, player)
+        keep_lower(found, player)
     } else {
         found
     }
 }
 
 // Of two players, the one in the lower seat.
-fn lower<'a>(found: Option<Player<'a>>, player: Player<'a>) -> Option<Player<'a>>
+fn keep_lower<'a>(found: Option<Player<'a>>, player: Player<'a>) -> Option<Player<'a>>
     ensures { option_map plain_player result
         ≡ player_list.lower (option_map plain_player found.entry) (plain_player player.entry) }
 {

@@ -8,16 +8,17 @@ ghost use Rattle.ohh_members.specs.Values.{cards_said, card_said, few_said, inte
 ghost use Rattle.ohh_members.specs.Values as member_values;
 
 use crate::fault::{MemberFault, MemberFaultKind, Path};
+use crate::player_ids::PlayerIds;
 use card_set::{Card, CardRow, Slot, SlotRow};
 use chip_ledger::Seat;
 use first_fault::{ReadError, in_range};
 use serde_json::Value;
 
 /// The value of a required member.
-#[tactic(auto, unfolding(crate::specs::Values::required))]
+#[tactic(auto, unfolding(crate::specs::Values::required_value))]
 pub fn required<'a>(value: &'a Value, path: Path) -> Result<&'a Value, ReadError<MemberFault>>
     ensures { Gives (λ found. view found.now) result
-        (member_values.required path (view value.now)) }
+        (member_values.required_value path (view value.now)) }
 {
     match field(value, path) {
         Some(found) => Ok(found),
@@ -28,7 +29,7 @@ pub fn required<'a>(value: &'a Value, path: Path) -> Result<&'a Value, ReadError
 /// The value of the member that the path ends with, if the object has one.
 pub fn field<'a>(value: &'a Value, path: Path) -> Option<&'a Value>
     ensures { option_map (λ found. view found.now) result
-        ≡ member_values.field path (view value.now) }
+        ≡ member_values.member_at path (view value.now) }
 {
     find_member(value, path.name())
 }
@@ -80,14 +81,17 @@ pub fn read_number(
 
 /// The seat of the player with this id.
 #[tactic(auto, unfolding(crate::specs::Values::player_said))]
-pub fn read_player(value: &Value, ids: &[i128], path: Path) -> Result<Seat, ReadError<MemberFault>>
-    requires { length ids.now ≤ 10 }
+pub fn read_player(
+    value: &Value,
+    players: &PlayerIds,
+    path: Path,
+) -> Result<Seat, ReadError<MemberFault>>
     ensures said { Gives (λ seat. seat.number) result
-        (player_said ids.now path (view value.now)) }
-    ensures seated { IfOk result (λ seat. seat.number ≤ length ids.now) }
+        (player_said players.now.ids.now path (view value.now)) }
+    ensures seated { IfOk result (λ seat. seat.number ≤ length players.now.ids.now) }
 {
     let id = read_integer(value, path)?;
-    if let Some(number) = seat_of(ids, id) {
+    if let Some(number) = find_seat(players.ids, id) {
         if let Some(seat) = Seat::new(number as u8) {
             return Ok(seat);
         }
@@ -97,7 +101,7 @@ pub fn read_player(value: &Value, ids: &[i128], path: Path) -> Result<Seat, Read
 
 // The index of the seat of the player with this id; `ids` are those of the players in the order of
 // their seats.
-fn seat_of(ids: &[i128], id: i128) -> Option<usize>
+fn find_seat(ids: &[i128], id: i128) -> Option<usize>
     ensures said { result ≡ member_values.seat_of ids.now id }
     ensures seated { IfSome result (λ seat. (1 ≤ seat) × (seat ≤ length ids.now)) }
 {
@@ -147,14 +151,14 @@ pub fn read_cards(value: &Value, path: Path) -> Result<CardRow, ReadError<Member
 pub fn read_card(value: &Value, path: Path) -> Result<Card, ReadError<MemberFault>>
     ensures { Gives (λ card. card) result (card_said path (view value.now)) }
 {
-    match known_in(read_slot(value, path)?) {
+    match to_known_card(read_slot(value, path)?) {
         Some(card) => Ok(card),
         None => Err(fault_at(MemberFaultKind::WrongType, path)),
     }
 }
 
 // The card, if it is known.
-fn known_in(slot: Slot) -> Option<Card>
+fn to_known_card(slot: Slot) -> Option<Card>
     ensures { result ≡ member_values.known_in slot }
 {
     match slot {
@@ -182,14 +186,14 @@ pub fn read_slots(value: &Value, path: Path) -> Result<SlotRow, ReadError<Member
 pub fn read_slot(value: &Value, path: Path) -> Result<Slot, ReadError<MemberFault>>
     ensures { Gives (λ slot. slot) result (slot_said path (view value.now)) }
 {
-    match slot_in(read_text(value, path)?) {
+    match parse_slot(read_text(value, path)?) {
         Some(slot) => Ok(slot),
         None => Err(fault_at(MemberFaultKind::WrongType, path)),
     }
 }
 
 // The card, known or unknown, that a text of two letters means.
-fn slot_in(text: &str) -> Option<Slot>
+fn parse_slot(text: &str) -> Option<Slot>
     ensures { result ≡ member_values.slot_in text.now }
 {
     match card_set::read_slots(text.as_bytes()) {

@@ -48,7 +48,7 @@ impl Word {
 
 /// The word that a text is, if it is one.
 #[tactic(auto, unfolding(crate::specs::Words::word_named))]
-pub fn word_named(text: &str) -> Option<Word>
+pub fn parse_word(text: &str) -> Option<Word>
     ensures { result ≡ words.word_named text.now }
 {
     match text {
@@ -71,7 +71,7 @@ pub fn word_named(text: &str) -> Option<Word>
 }
 
 /// Whether the word deals hole cards.
-pub fn is_deal(word: Word) -> bool
+pub fn deals_hole_cards(word: Word) -> bool
     ensures { result ≡ words.is_deal word }
 {
     word == Word::DealtCards

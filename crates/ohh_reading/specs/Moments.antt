@@ -20,8 +20,8 @@ abbrev pub no_moment : {A : Type 0} → Result A MemberFault
 no_moment = wrong whats.WrongType paths.StartDate
 
 -- the part of a text from this place on, with this many characters
-abbrev pub part : ℕ → ℕ → List ℕ → List ℕ
-part from count text = take count (drop from text)
+abbrev pub characters_from : ℕ → ℕ → List ℕ → List ℕ
+characters_from from count text = take count (drop from text)
 
 -- a number from least to most, in decimal digits
 unfoldable pub digits_said : ℕ → ℕ → List ℕ → Result ℕ MemberFault
@@ -42,9 +42,9 @@ has_signs text =
 -- the date, which the calendar has
 unfoldable pub day_said : List ℕ → Result CivilDate MemberFault
 day_said text = do
-  year ← digits_said 1 9999 (part 0 4 text)
-  month ← digits_said 1 12 (part 5 2 text)
-  day ← digits_said 1 31 (part 8 2 text)
+  year ← digits_said 1 9999 (characters_from 0 4 text)
+  month ← digits_said 1 12 (characters_from 5 2 text)
+  day ← digits_said 1 31 (characters_from 8 2 text)
   if nat_le day (days_in_month year month)
       then Ok (record { year = year; month = month; day = day })
       else no_moment
@@ -52,9 +52,9 @@ day_said text = do
 -- the time of day, with these nanoseconds
 unfoldable pub clock_said : ℕ → List ℕ → Result Clock MemberFault
 clock_said nano text = do
-  hour ← digits_said 0 23 (part 11 2 text)
-  minute ← digits_said 0 59 (part 14 2 text)
-  second ← digits_said 0 59 (part 17 2 text)
+  hour ← digits_said 0 23 (characters_from 11 2 text)
+  minute ← digits_said 0 59 (characters_from 14 2 text)
+  second ← digits_said 0 59 (characters_from 17 2 text)
   Ok (record { hour = hour; minute = minute; second = second; nano = nano })
 
 -- how many digits a text begins with

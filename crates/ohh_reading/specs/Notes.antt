@@ -13,7 +13,7 @@ use Rattle.ohh_members.specs.declared.fault.MemberFault.{MemberFault}
 use Rattle.ohh_reading.specs.declared.labels.Labels.{Labels}
 use Rattle.ohh_reading.specs.Moments.{moment_said}
 use Rattle.ohh_members.specs.Players.{PlainPlayer}
-use Rattle.ohh_members.specs.Values.{field, integer_said, number_said, text_said}
+use Rattle.ohh_members.specs.Values.{integer_said, member_at, number_said, text_said}
 use Rattle.chip_ledger.specs.SeatsSaid.{default_name}
 
 -- the text of a note with this default; it is of at most 255 bytes
@@ -40,12 +40,12 @@ seat_count_said count value =
 -- the labels of a hand with this number of seats, at this place of its file, from 0
 unfoldable pub labels_said : ℕ → ℕ → Data → Result Labels MemberFault
 labels_said place count ohh = do
-  hand ← or_none (label_said (decimal place) paths.GameNumber) (field paths.GameNumber ohh)
-  table ← or_none (text_note_said [] paths.TableName) (field paths.TableName ohh)
-  seat_count ← or_none (seat_count_said count) (field paths.TableSize ohh)
-  moment ← read_if moment_said (field paths.StartDate ohh)
-  currency ← or_none (text_note_said [] paths.Currency) (field paths.Currency ohh)
-  venue ← or_none (text_note_said [] paths.SiteName) (field paths.SiteName ohh)
+  hand ← or_none (label_said (decimal place) paths.GameNumber) (member_at paths.GameNumber ohh)
+  table ← or_none (text_note_said [] paths.TableName) (member_at paths.TableName ohh)
+  seat_count ← or_none (seat_count_said count) (member_at paths.TableSize ohh)
+  moment ← read_if moment_said (member_at paths.StartDate ohh)
+  currency ← or_none (text_note_said [] paths.Currency) (member_at paths.Currency ohh)
+  venue ← or_none (text_note_said [] paths.SiteName) (member_at paths.SiteName ohh)
   Ok
       (record {
         hand = hand;

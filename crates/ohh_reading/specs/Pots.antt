@@ -17,7 +17,7 @@ use Rattle.ohh_members.specs.declared.fault.MemberFault.{MemberFault}
 use Rattle.ohh_reading.specs.declared.listed_pots.ListedPots.{ListedPots}
 use Rattle.ohh_reading.specs.declared.listed_pots.Paid.{Paid}
 use Rattle.ohh_reading.specs.PotSums.{PlainListedPot, plain_listed_pot, all_of, rakes_said}
-use Rattle.ohh_members.specs.Values.{wrong, field, required, object_said, list_said, number_said, player_said}
+use Rattle.ohh_members.specs.Values.{wrong, member_at, required_value, object_said, list_said, number_said, player_said}
 use Rattle.ohh_reading.specs.Won.{PlainWin, plain_win, won_by}
 use Rattle.chip_ledger.specs.SeatRow.{amounts_in}
 
@@ -53,9 +53,9 @@ summed before path number =
 unfoldable pub win_said : List ℤ → ℕ → List PlainWin → ℕ → Data → Result PlainWin MemberFault
 win_said ids pot earlier index value = do
   win ← object_said (of_win pot index wins.Itself) value
-  seat ← required (of_win pot index wins.PlayerId) win
+  seat ← required_value (of_win pot index wins.PlayerId) win
       >>= player_said ids (of_win pot index wins.PlayerId)
-  chips ← required (of_win pot index wins.WinAmount) win
+  chips ← required_value (of_win pot index wins.WinAmount) win
       >>= number_said 0 MOST_AMOUNT (of_win pot index wins.WinAmount)
   within ← summed (won_by seat earlier) (of_win pot index wins.WinAmount) chips
   Ok (record { seat = seat; chips = within })
@@ -69,7 +69,7 @@ win_added ids pot earlier index value =
 -- the amount of a pot, after the pots before it
 unfoldable pub amount_said : List PlainListedPot → ℕ → Data → Result ℕ MemberFault
 amount_said earlier index pot = do
-  amount ← required (of_pot index members.Amount) pot
+  amount ← required_value (of_pot index members.Amount) pot
       >>= number_said 0 MOST_AMOUNT (of_pot index members.Amount)
   summed (all_of earlier) (of_pot index members.Amount) amount
 
@@ -77,7 +77,7 @@ amount_said earlier index pot = do
 unfoldable pub rake_said : ℕ → Data → Result ℕ MemberFault
 rake_said index pot = do
   rake ← read_if (number_said 0 MOST_AMOUNT (of_pot index members.Rake))
-      (field (of_pot index members.Rake) pot)
+      (member_at (of_pot index members.Rake) pot)
   if nat_le 11 index && nat_lt 0 (unwrap_or rake 0)
       then wrong whats.RakePlace (of_pot index members.Rake)
       else Ok (unwrap_or rake 0)
@@ -85,7 +85,7 @@ rake_said index pot = do
 -- what is won of a pot, added to what was won before
 unfoldable pub wins_said : List ℤ → ℕ → List PlainWin → Data → Result (List PlainWin) MemberFault
 wins_said ids index earlier pot = do
-  items ← required (of_pot index members.PlayerWins) pot
+  items ← required_value (of_pot index members.PlayerWins) pot
       >>= list_said (of_pot index members.PlayerWins)
   added_from (win_added ids index) earlier 0 items
 
@@ -138,4 +138,4 @@ listed_paid ids value = do
 -- what is stated of the pots, if they are listed
 unfoldable pub pots_said : List ℤ → Data → Result PlainPaid MemberFault
 pots_said ids ohh =
-    elim (field paths.Pots ohh) [ Some value ↦ listed_paid ids value | None ↦ Ok none_paid ]
+    elim (member_at paths.Pots ohh) [ Some value ↦ listed_paid ids value | None ↦ Ok none_paid ]

@@ -13,7 +13,7 @@ use Rattle.ohh_members.specs.declared.fault.Path.TheVariants as paths
 use Rattle.ohh_members.specs.declared.fault.MemberFaultKind.{MemberFaultKind}
 use Rattle.ohh_members.specs.declared.fault.MemberFaultKind.TheVariants as whats
 use Rattle.ohh_members.specs.Paths.{path_text}
-use Rattle.ohh_members.specs.Values.{wrong, field}
+use Rattle.ohh_members.specs.Values.{wrong, member_at}
 use Rattle.ohh_reading.specs.declared.fault.OhhFault.{OhhFault}
 use Rattle.ohh_reading.specs.declared.fault.OhhFault.TheVariants as faults
 use Rattle.ohh_reading.specs.Blocks.{blocks_of}
@@ -30,9 +30,9 @@ abbrev pub wrong_in : ℕ → MemberFault → Wrong
 wrong_in number fault = InHand number (path_text fault.path) fault.what
 
 -- what is read of the hand with this number
-abbrev pub in_hand : {A : Type 0} → ℕ → Result A MemberFault → Result A Wrong
-in_hand number (Ok x) = Ok x
-in_hand number (Err fault) = Err (wrong_in number fault)
+abbrev pub result_in_hand : {A : Type 0} → ℕ → Result A MemberFault → Result A Wrong
+result_in_hand number (Ok x) = Ok x
+result_in_hand number (Err fault) = Err (wrong_in number fault)
 
 -- the object of the hand in a tree
 abbrev pub object_of : Option Data → Result Data MemberFault
@@ -42,7 +42,7 @@ object_of _ = wrong whats.MissingMember paths.Ohh
 -- the hand of a tree
 unfoldable pub tree_said : Dialect → ℕ → ℕ → Data → Result (PlainHand × ℕ) MemberFault
 tree_said dialect file_moves place tree =
-    object_of (field paths.Ohh tree) >>= hand_said dialect file_moves place
+    object_of (member_at paths.Ohh tree) >>= hand_said dialect file_moves place
 
 -- the JSON tree of a block, if it is JSON
 abbrev pub tree_of : List ℕ → Option Data
@@ -52,7 +52,7 @@ tree_of block = if is_utf8 block then read block else None
 unfoldable pub found_said : Dialect → ℕ → ℕ → Option Data → Result (PlainHand × ℕ) Wrong
 found_said dialect file_moves number None = Err (NoText number)
 found_said dialect file_moves number (Some tree) =
-    in_hand number (tree_said dialect file_moves (number - 1) tree)
+    result_in_hand number (tree_said dialect file_moves (number - 1) tree)
 
 -- there are too many hands
 abbrev pub past_hands : MemberFault

@@ -3,7 +3,7 @@ ghost use Rattle.std.specs.Prelude.{◌≡◌, ◌+◌, ◌∷◌, ◌++◌, Lis
 ghost use Rattle.ohh_reading.specs.Begins.{block_lines_from};
 ghost use Rattle.ohh_reading.specs.Begins as begins;
 
-use crate::blocks::{cut_line, is_blank};
+use crate::blocks::{cut_line, separates_blocks};
 use card_set::{Memory, TryPush};
 use std::alloc::Global;
 
@@ -12,7 +12,7 @@ use std::alloc::Global;
 /// # Errors
 ///
 /// Out of memory.
-pub fn block_lines(alloc: Global, text: &[u8]) -> Result<Vec<u64>, Memory>
+pub fn find_block_lines(alloc: Global, text: &[u8]) -> Result<Vec<u64>, Memory>
     ensures { IfOk result (λ lines. lines.items ≡ begins.block_lines text.now) }
 {
     let mut lines = Vec::new(alloc);
@@ -34,7 +34,7 @@ fn take_line(lines: &mut Vec<u64>, number: u64, inside: bool, line: &[u8]) -> Re
         → lines.new.items ++ block_lines_from now (number + 1) others
         ≡ lines.old.items ++ block_lines_from inside number (line.now ∷ others)) }
 {
-    if is_blank(line) {
+    if separates_blocks(line) {
         return Ok(false);
     }
     if inside {

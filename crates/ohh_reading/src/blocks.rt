@@ -66,7 +66,7 @@ fn take_line(
         ≡ option_map_or (λ block. block.items ∷ []) step.0 []
         ++ blocks_from (option_map (λ block. block.items) step.1) lines) }
 {
-    if is_blank(line) {
+    if separates_blocks(line) {
         return Ok((begun, None));
     }
     match begun {
@@ -83,7 +83,7 @@ fn take_line(
 }
 
 /// Whether the line separates blocks.
-pub fn is_blank(line: &[u8]) -> bool
+pub fn separates_blocks(line: &[u8]) -> bool
     ensures { result ≡ blocks.is_blank line.now }
 {
     for sign in line {

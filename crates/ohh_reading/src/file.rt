@@ -137,7 +137,7 @@ fn read_tree(
 // The object of the hand in a tree.
 fn object_in(tree: &Value) -> Result<&Value, ReadError<MemberFault>>
     ensures { Gives (λ ohh. view ohh.now) result
-        (object_of (values.field paths.Ohh (view tree.now))) }
+        (object_of (values.member_at paths.Ohh (view tree.now))) }
 {
     match field(tree, Path::Ohh) {
         Some(value) => object_or_none(value),

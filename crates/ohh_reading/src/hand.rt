@@ -16,6 +16,7 @@ use hand_canon::Record;
 use ohh_members::Dialect;
 use ohh_members::fault::MemberFault;
 use ohh_members::header::read_front;
+use ohh_members::player_ids::PlayerIds;
 use serde_json::Value;
 use std::alloc::Global;
 
@@ -39,9 +40,12 @@ pub fn read_hand(
     let front = read_front(alloc, ohh)?;
     let stacks = stacks_in(&front);
     let ids = ids_in(alloc, &front)?;
-    let play = read_play(alloc, dialect, &front, stacks, &ids, file_moves, ohh)?;
+    let players = &PlayerIds {
+        ids: ids.as_slice(),
+    };
+    let play = read_play(alloc, dialect, &front, stacks, players, file_moves, ohh)?;
     let moves = play.file_moves;
-    let paid = read_paid(alloc, &front, &ids, ohh)?;
+    let paid = read_paid(alloc, &front, players, ohh)?;
     let notes = notes_in(alloc, &front, ohh, place)?;
     Ok((record_of(&front, stacks, play, paid, notes), moves))
 }

@@ -63,7 +63,7 @@ pub fn read_labels(
 #[tactic(auto, unfolding(crate::specs::Notes::seat_count_said))]
 fn seat_count_at(ohh: &Value, seats: u8) -> Result<Option<u8>, ReadError<MemberFault>>
     ensures said { Gives (λ count. count) result
-        (or_none (seat_count_said seats) (values.field paths.TableSize (view ohh.now))) }
+        (or_none (seat_count_said seats) (values.member_at paths.TableSize (view ohh.now))) }
     ensures allowed { IfOk result (λ count. IfSome count (IsSeatCount seats)) }
 {
     let Some(value) = field(ohh, Path::TableSize) else {
@@ -80,7 +80,7 @@ fn seat_count_at(ohh: &Value, seats: u8) -> Result<Option<u8>, ReadError<MemberF
 // The moment at which the hand began, if it is there.
 fn moment_at(ohh: &Value) -> Result<Option<Moment>, ReadError<MemberFault>>
     ensures said { Gives (λ moment. moment) result
-        (read_if moment_said (values.field paths.StartDate (view ohh.now))) }
+        (read_if moment_said (values.member_at paths.StartDate (view ohh.now))) }
     ensures moment { IfOk result (λ moment. IfSome moment IsMoment) }
 {
     match field(ohh, Path::StartDate) {

@@ -13,16 +13,14 @@ pub mod moment;
 pub mod notes;
 mod parts;
 mod play;
-mod player_ids;
 pub mod pots;
 mod reading;
 mod record;
-mod seated;
 mod sizes;
 pub mod stated;
 pub mod texts;
 pub mod won;
 
-pub use begins::block_lines;
+pub use begins::find_block_lines;
 pub use fault::OhhFault;
 pub use reading::read;

@@ -7,7 +7,7 @@ ghost use Rattle.ohh_reading.specs.MomentRanges.{IsDay, IsMoment};
 ghost use Rattle.ohh_reading.specs.Moments.{clock_said, day_said, digits_said, fraction_said, moment_said, nine_of, zoned};
 ghost use Rattle.ohh_reading.specs.Moments as moments;
 
-use first_fault::{ReadError, are_digits, read_digits};
+use first_fault::{ReadError, is_all_digits, read_digits};
 use hand_canon::{CivilDate, Clock, Moment, has_day};
 use ohh_members::fault::{MemberFault, MemberFaultKind, Path};
 use ohh_members::values::{fault_at, read_text};
@@ -20,8 +20,8 @@ pub fn read_moment(value: &Value) -> Result<Moment, ReadError<MemberFault>>
     ensures moment { IfOk result IsMoment }
 {
     let text = read_text(value, Path::StartDate)?.as_bytes();
-    if !has_signs(text) {
-        return Err(no_moment());
+    if !has_separators(text) {
+        return Err(new_moment_fault());
     }
     let day = read_day(text)?;
     let (_front, behind) = text.split_at(19);
@@ -31,7 +31,7 @@ pub fn read_moment(value: &Value) -> Result<Moment, ReadError<MemberFault>>
 }
 
 // Whether the characters between the numbers are those of a moment.
-fn has_signs(text: &[u8]) -> bool
+fn has_separators(text: &[u8]) -> bool
     ensures { result ≡ moments.has_signs text.now }
 {
     text.len() >= 19
@@ -51,7 +51,7 @@ fn read_day(text: &[u8]) -> Result<CivilDate, ReadError<MemberFault>>
     if has_day(year, month, day) {
         Ok(CivilDate { year, month, day })
     } else {
-        Err(no_moment())
+        Err(new_moment_fault())
     }
 }
 
@@ -62,13 +62,13 @@ fn read_fraction(text: &[u8]) -> Result<u32, ReadError<MemberFault>>
     ensures said { Gives (λ nano. nano) result (fraction_said text.now) }
     ensures most { IfOk result (λ nano. nano ≤ 999999999) }
 {
-    if !has_point(text) {
+    if !starts_with_point(text) {
         return read_zone(0, text);
     }
     let (_point, behind) = text.split_at(1);
-    let count = digits_in_front(behind);
+    let count = count_leading_digits(behind);
     if count < 1 || count > 9 {
-        return Err(no_moment());
+        return Err(new_moment_fault());
     }
     let (digits, zone) = behind.split_at(count);
     let nine = nine(digits);
@@ -77,7 +77,7 @@ fn read_fraction(text: &[u8]) -> Result<u32, ReadError<MemberFault>>
 }
 
 // Whether the text begins with a point.
-fn has_point(text: &[u8]) -> bool
+fn starts_with_point(text: &[u8]) -> bool
     ensures { result ≡ moments.has_point text.now }
 {
     !text.is_empty() && text[0] == b'.'
@@ -101,22 +101,22 @@ fn read_zone(nano: u32, zone: &[u8]) -> Result<u32, ReadError<MemberFault>>
     ensures said { Gives (λ nano. nano) result (zoned nano zone.now) }
     ensures same { IfOk result (λ found. found ≡ nano) }
 {
-    if is_universal(zone) {
+    if is_utc(zone) {
         Ok(nano)
     } else {
-        Err(no_moment())
+        Err(new_moment_fault())
     }
 }
 
 // Whether the zone is universal time.
-fn is_universal(zone: &[u8]) -> bool
+fn is_utc(zone: &[u8]) -> bool
     ensures { result ≡ moments.is_universal zone.now }
 {
     zone.is_empty() || (zone == b"Z".as_slice() || zone == b"+00:00".as_slice())
 }
 
 // How many digits the text begins with.
-fn digits_in_front(text: &[u8]) -> usize
+fn count_leading_digits(text: &[u8]) -> usize
     ensures { result ≡ moments.digits_in_front text.now }
 {
     for (index, sign) in text.iter().enumerate() {
@@ -152,23 +152,23 @@ fn number_in(digits: &[u8], least: u64, most: u64) -> Result<u64, ReadError<Memb
     ensures said { Gives (λ number. number) result (digits_said least most digits.now) }
     ensures within { IfOk result (IsWithin least most) }
 {
-    if !are_digits(digits) {
-        return Err(no_moment());
+    if !is_all_digits(digits) {
+        return Err(new_moment_fault());
     }
     match read_digits(digits, most) {
         Some(number) => {
             if least <= number {
                 Ok(number)
             } else {
-                Err(no_moment())
+                Err(new_moment_fault())
             }
         }
-        None => Err(no_moment()),
+        None => Err(new_moment_fault()),
     }
 }
 
 // The text is not a moment.
-fn no_moment() -> ReadError<MemberFault>
+fn new_moment_fault() -> ReadError<MemberFault>
     ensures { result
         ≡ ReadError.Fault (record { what = MemberFaultKind.WrongType; path = Path.StartDate }) }
 {
@@ -177,7 +177,7 @@ fn no_moment() -> ReadError<MemberFault>
 
 // `count` bytes of a text from this place on, or fewer if the text ends.
 fn part(text: &[u8], from: usize, count: usize) -> &[u8]
-    ensures { result.now ≡ moments.part from count text.now }
+    ensures { result.now ≡ moments.characters_from from count text.now }
 {
     let (_before, rest) = text.split_at(from.min(text.len()));
     let (part, _behind) = rest.split_at(count.min(rest.len()));

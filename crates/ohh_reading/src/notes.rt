@@ -10,12 +10,12 @@ ghost use Rattle.ohh_members.specs.Players.{plain_player};
 ghost use Rattle.chip_ledger.specs.SeatsSaid.{default_name};
 
 use crate::labels::{Labels, read_labels};
-use crate::seated::Seated;
 use card_set::{Memory, try_format};
 use first_fault::{ReadError, Text};
-use hand_canon::{Clock, Moment, Notes, keep_short, non_default_seats};
+use hand_canon::{Clock, Moment, Notes, keep_short, omit_default_seats};
 use ohh_members::fault::MemberFault;
 use ohh_members::player::Player;
+use ohh_members::seated::Seated;
 use serde_json::Value;
 use std::alloc::Global;
 
@@ -26,15 +26,13 @@ pub fn read_notes(
     alloc: Global,
     ohh: &Value,
     place: u32,
-    players: &[Player],
+    seated: &Seated,
 ) -> Result<Notes, ReadError<MemberFault>>
-    requires { length players.now ≤ 10 }
-    ensures said { Gives (plain_notes (length players.now)) result
-        (notes_said place (map plain_player players.now) (view ohh.now)) }
-    ensures allowed { IfOk result (AreAllowed (length players.now)) }
+    ensures said { Gives (plain_notes (length seated.now.players.now)) result
+        (notes_said place (map plain_player seated.now.players.now) (view ohh.now)) }
+    ensures allowed { IfOk result (AreAllowed (length seated.now.players.now)) }
 {
-    let seated = &Seated { players };
-    let labels = read_labels(alloc, ohh, place, players.len() as u8)?;
+    let labels = read_labels(alloc, ohh, place, seated.players.len() as u8)?;
     let names = names_of(alloc, seated)?;
     let Labels {
         hand,
@@ -70,13 +68,13 @@ fn names_of(alloc: Global, seated: &Seated) -> Result<[Option<Text>; 10], Memory
     let mut names = [None, None, None, None, None, None, None, None, None, None];
     let players = seated.players;
     for (index, player) in players.iter().enumerate() {
-        names[index] = name_of(alloc, player, index as u8 + 1)?;
+        names[index] = make_player_name(alloc, player, index as u8 + 1)?;
     }
     Ok(names)
 }
 
 // The name of the player in a seat.
-fn name_of(alloc: Global, player: &Player, seat: u8) -> Result<Option<Text>, Memory>
+fn make_player_name(alloc: Global, player: &Player, seat: u8) -> Result<Option<Text>, Memory>
     ensures said { IfOk result (λ name. name
         ≡ option_and_then (noted (default_name seat)) (plain_player player.now).name) }
     ensures allowed { IfOk result (λ name. IfSome name (IsName seat)) }
@@ -108,7 +106,7 @@ fn unusual_seats(seated: &Seated) -> Option<[u8; 10]>
         (map (λ player. player.seat) (map plain_player seated.now.players.now)) }
     ensures allowed { IfSome result (AreSeatNumbers (length seated.now.players.now)) }
 {
-    non_default_seats(seats_of(seated), seated.players.len())
+    omit_default_seats(seats_of(seated), seated.players.len())
 }
 
 // The seats of players at the table, in the order of their seats in the hand.

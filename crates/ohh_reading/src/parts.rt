@@ -21,7 +21,9 @@ use first_fault::ReadError;
 use hand_canon::Notes;
 use ohh_members::fault::MemberFault;
 use ohh_members::header::Header;
-use ohh_members::rows::{ids_of, stack_row};
+use ohh_members::player_ids::PlayerIds;
+use ohh_members::rows::{collect_ids, stack_row};
+use ohh_members::seated::Seated;
 use serde_json::Value;
 use std::alloc::Global;
 
@@ -32,7 +34,10 @@ pub fn stacks_in(front: &Header) -> SeatRow
     ensures seats { result.seats ≡ length front.now.players.items }
     ensures sizes { (k : ℕ) → k < result.seats → IsSize (slice_index result.amounts k) }
 {
-    stack_row(&front.players)
+    let seated = Seated {
+        players: &front.players,
+    };
+    stack_row(&seated)
 }
 
 /// The ids of the players, the first seat's first.
@@ -41,24 +46,24 @@ pub fn ids_in(alloc: Global, front: &Header) -> Result<Vec<i128>, Memory>
         ≡ header.ids_of (map plain_player front.now.players.items)) }
     ensures count { IfOk result (λ ids. length ids.items ≡ length front.now.players.items) }
 {
-    ids_of(alloc, &front.players)
+    collect_ids(alloc, &front.players)
 }
 
 /// What a hand with these players states of its pots.
 pub fn read_paid(
     alloc: Global,
     front: &Header,
-    ids: &Vec<i128>,
+    players: &PlayerIds,
     ohh: &Value,
 ) -> Result<Paid, ReadError<MemberFault>>
-    requires front { IsFront front.now }
-    requires count { length ids.now.items ≡ length front.now.players.items }
-    requires ids { ids.now.items ≡ header.ids_of (map plain_player front.now.players.items) }
+    requires count { length players.now.ids.now ≡ length front.now.players.items }
+    requires ids { players.now.ids.now
+        ≡ header.ids_of (map plain_player front.now.players.items) }
     ensures said { Gives plain_paid result
         (pots_said (header.ids_of (map plain_player front.now.players.items)) (view ohh.now)) }
     ensures fits { IfOk result (IsPaid (length front.now.players.items)) }
 {
-    read_pots(alloc, ids, ohh)
+    read_pots(alloc, players, ohh)
 }
 
 /// The notes of a hand with these players, at this place of its file, from 0.
@@ -73,5 +78,8 @@ pub fn notes_in(
         (notes_said place (map plain_player front.now.players.items) (view ohh.now)) }
     ensures allowed { IfOk result (AreAllowed (length front.now.players.items)) }
 {
-    read_notes(alloc, ohh, place, &front.players)
+    let seated = Seated {
+        players: &front.players,
+    };
+    read_notes(alloc, ohh, place, &seated)
 }

@@ -13,29 +13,31 @@ ghost use Rattle.ohh_members.specs.Values as member_values;
 
 use crate::listed_pot::ListedPot;
 use crate::listed_pots::{ListedPots, Paid};
-use crate::player_ids::PlayerIds;
 use crate::won::{Win, Won};
 use chip_ledger::MOST_AMOUNT;
 use first_fault::ReadError;
 use ohh_members::fault::{MemberFault, MemberFaultKind, Path, PotMember, WinMember};
+use ohh_members::player_ids::PlayerIds;
 use ohh_members::values::{
     fault_at, field, read_list, read_number, read_object, read_player, required,
 };
 use serde_json::Value;
 use std::alloc::Global;
 
-/// What a hand states of its pots; `ids` are those of its players, in the order of their seats.
+/// What a hand with these players states of its pots.
 #[tactic(auto, unfolding(crate::specs::Pots::pots_said, crate::specs::Pots::listed_paid))]
-pub fn read_pots(alloc: Global, ids: &[i128], ohh: &Value) -> Result<Paid, ReadError<MemberFault>>
-    requires some { 2 ≤ length ids.now }
-    requires few { length ids.now ≤ 10 }
-    ensures said { Gives plain_paid result (pots_said ids.now (view ohh.now)) }
-    ensures fits { IfOk result (IsPaid (length ids.now)) }
+pub fn read_pots(
+    alloc: Global,
+    players: &PlayerIds,
+    ohh: &Value,
+) -> Result<Paid, ReadError<MemberFault>>
+    ensures said { Gives plain_paid result (pots_said players.now.ids.now (view ohh.now)) }
+    ensures fits { IfOk result (IsPaid (length players.now.ids.now)) }
 {
     match field(ohh, Path::Pots) {
         Some(value) => {
             let values = read_list(value, Path::Pots)?;
-            let found = add_pots(alloc, &PlayerIds { ids }, values)?;
+            let found = add_pots(alloc, players, values)?;
             Ok(found.paid())
         }
         None => Ok(Paid::none()),
@@ -54,7 +56,7 @@ fn add_pots(
 {
     let mut found = ListedPots::new(alloc, players.count());
     for (index, value) in values.iter().enumerate() {
-        found = add_pot(players.ids, found, index as u64, value)?;
+        found = add_pot(players, found, index as u64, value)?;
     }
     Ok(found)
 }
@@ -62,14 +64,14 @@ fn add_pots(
 // Adds one pot, and what is won of it.
 #[tactic(auto, unfolding(crate::specs::Pots::pot_added))]
 fn add_pot(
-    ids: &[i128],
+    players: &PlayerIds,
     found: ListedPots,
     index: u64,
     value: &Value,
 ) -> Result<ListedPots, ReadError<MemberFault>>
-    requires ids { length ids.now ≡ found.won.sums.seats }
+    requires ids { length players.now.ids.now ≡ found.won.sums.seats }
     ensures said { Gives plain_found result
-        (pot_added ids.now (plain_found found) index (view value.now)) }
+        (pot_added players.now.ids.now (plain_found found) index (view value.now)) }
     ensures seats { IfOk result (λ after. after.won.sums.seats ≡ found.won.sums.seats) }
 {
     let itself = Path::Pot {
@@ -81,7 +83,7 @@ fn add_pot(
     let rake = read_rake(index, pot)?;
     let after = found.with_pot(ListedPot { amount, rake })?;
     let ListedPots { pots, total, won } = after;
-    let won = read_wins(ids, index, won, pot)?;
+    let won = read_wins(players, index, won, pot)?;
     Ok(ListedPots { pots, total, won })
 }
 
@@ -131,7 +133,7 @@ fn or_zero(number: Option<u64>) -> u64
 // The number at a path, if it is there.
 fn number_or_none(pot: &Value, path: Path) -> Result<Option<u64>, ReadError<MemberFault>>
     ensures said { Gives (λ number. number) result
-        (read_if (number_said 0 MOST_AMOUNT path) (member_values.field path (view pot.now))) }
+        (read_if (number_said 0 MOST_AMOUNT path) (member_values.member_at path (view pot.now))) }
     ensures most { IfOk result (λ number. ForSome number (λ number. number ≤ MOST_AMOUNT)) }
 {
     match field(pot, path) {
@@ -145,10 +147,15 @@ fn number_or_none(pot: &Value, path: Path) -> Result<Option<u64>, ReadError<Memb
 
 // Adds what is won of a pot to what was won before.
 #[tactic(auto, unfolding(crate::specs::Pots::wins_said))]
-fn read_wins(ids: &[i128], index: u64, won: Won, pot: &Value) -> Result<Won, ReadError<MemberFault>>
-    requires ids { length ids.now ≡ won.sums.seats }
+fn read_wins(
+    players: &PlayerIds,
+    index: u64,
+    won: Won,
+    pot: &Value,
+) -> Result<Won, ReadError<MemberFault>>
+    requires ids { length players.now.ids.now ≡ won.sums.seats }
     ensures said { Gives (λ after. map plain_win after.list.items) result
-        (wins_said ids.now index (map plain_win won.list.items) (view pot.now)) }
+        (wins_said players.now.ids.now index (map plain_win won.list.items) (view pot.now)) }
     ensures seats { IfOk result (λ after. after.sums.seats ≡ won.sums.seats) }
 {
     let path = Path::Pot {
@@ -158,7 +165,7 @@ fn read_wins(ids: &[i128], index: u64, won: Won, pot: &Value) -> Result<Won, Rea
     let values = read_list(required(pot, path)?, path)?;
     let mut after = won;
     for (place, value) in values.iter().enumerate() {
-        after = add_win(ids, index, after, place as u64, value)?;
+        after = add_win(players, index, after, place as u64, value)?;
     }
     Ok(after)
 }
@@ -166,18 +173,18 @@ fn read_wins(ids: &[i128], index: u64, won: Won, pot: &Value) -> Result<Won, Rea
 // Adds one win.
 #[tactic(auto, unfolding(crate::specs::Pots::win_added))]
 fn add_win(
-    ids: &[i128],
+    players: &PlayerIds,
     pot: u64,
     won: Won,
     index: u64,
     value: &Value,
 ) -> Result<Won, ReadError<MemberFault>>
-    requires ids { length ids.now ≡ won.sums.seats }
+    requires ids { length players.now.ids.now ≡ won.sums.seats }
     ensures said { Gives (λ after. map plain_win after.list.items) result
-        (win_added ids.now pot (map plain_win won.list.items) index (view value.now)) }
+        (win_added players.now.ids.now pot (map plain_win won.list.items) index (view value.now)) }
     ensures seats { IfOk result (λ after. after.sums.seats ≡ won.sums.seats) }
 {
-    let win = read_win(ids, pot, &won, index, value)?;
+    let win = read_win(players, pot, &won, index, value)?;
     let after = won.with(win)?;
     Ok(after)
 }
@@ -185,15 +192,16 @@ fn add_win(
 // What a player wins of the pot with this index, after these wins.
 #[tactic(auto, unfolding(crate::specs::Pots::win_said))]
 fn read_win(
-    ids: &[i128],
+    players: &PlayerIds,
     pot: u64,
     won: &Won,
     index: u64,
     value: &Value,
 ) -> Result<Win, ReadError<MemberFault>>
-    requires ids { length ids.now ≡ won.now.sums.seats }
+    requires ids { length players.now.ids.now ≡ won.now.sums.seats }
     ensures said { Gives plain_win result
-        (win_said ids.now pot (map plain_win won.now.list.items) index (view value.now)) }
+        (win_said players.now.ids.now pot (map plain_win won.now.list.items) index
+        (view value.now)) }
     ensures seated { IfOk result (λ win. win.seat.number ≤ won.now.sums.seats) }
     ensures within { IfOk result (λ win.
         amount_of won.now.sums win.seat.number + win.chips ≤ MOST_AMOUNT) }
@@ -220,7 +228,7 @@ fn read_win(
         },
     };
     let win = read_object(value, itself)?;
-    let seat = read_player(required(win, id)?, ids, id)?;
+    let seat = read_player(required(win, id)?, players, id)?;
     let chips = read_number(required(win, amount)?, 0, MOST_AMOUNT, amount)?;
     let chips = within_sum(won.sums.get(seat), amount, chips)?;
     Ok(Win { seat, chips })

@@ -16,7 +16,7 @@ ghost use Rattle.hand_canon.specs.PlainHands.{plain};
 ghost use Rattle.hand_canon.specs.SaidNotes.{plain_notes};
 
 use crate::listed_pots::Paid;
-use crate::sizes::sizes_of;
+use crate::sizes::make_bet_sizes;
 use chip_ledger::SeatRow;
 use hand_canon::{Notes, Record, Stated};
 use ohh_members::header::Header;
@@ -45,7 +45,7 @@ pub fn record_of(
     ensures script { result.script ≡ play.script }
 {
     let RoundsPlay { stakes, script, .. } = play;
-    let sizes = sizes_of(front.code, front.blinds.big);
+    let sizes = make_bet_sizes(front.code, front.blinds.big);
     Record {
         setup: Setup {
             code: front.code,

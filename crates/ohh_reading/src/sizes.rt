@@ -9,7 +9,7 @@ use hand_canon::Sizes;
 use play_event::Code;
 
 /// The bet sizes of a game with this big blind.
-pub fn sizes_of(code: Code, big_blind: u64) -> Sizes
+pub fn make_bet_sizes(code: Code, big_blind: u64) -> Sizes
     requires least { 1 ≤ big_blind }
     requires most { big_blind ≤ MOST_CHIPS }
     requires fixed { is_fixed_game code ≡ true → 2 * big_blind ≤ MOST_CHIPS }

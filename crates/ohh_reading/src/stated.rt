@@ -80,23 +80,23 @@ fn rakes_of(pots: &[ListedPot]) -> RakeRow
     ensures most { (pot : ℕ) → rake_of result pot ≤ MOST_AMOUNT }
 {
     let rakes = [
-        rake_at(pots, 0),
-        rake_at(pots, 1),
-        rake_at(pots, 2),
-        rake_at(pots, 3),
-        rake_at(pots, 4),
-        rake_at(pots, 5),
-        rake_at(pots, 6),
-        rake_at(pots, 7),
-        rake_at(pots, 8),
-        rake_at(pots, 9),
-        rake_at(pots, 10),
+        rake_or_zero(pots, 0),
+        rake_or_zero(pots, 1),
+        rake_or_zero(pots, 2),
+        rake_or_zero(pots, 3),
+        rake_or_zero(pots, 4),
+        rake_or_zero(pots, 5),
+        rake_or_zero(pots, 6),
+        rake_or_zero(pots, 7),
+        rake_or_zero(pots, 8),
+        rake_or_zero(pots, 9),
+        rake_or_zero(pots, 10),
     ];
     RakeRow { rakes }
 }
 
 // The rake of the pot with this index, or 0 if there is no such pot.
-fn rake_at(pots: &[ListedPot], index: usize) -> u64
+fn rake_or_zero(pots: &[ListedPot], index: usize) -> u64
     ensures said { result ≡ pot_sums.rake_at (map plain_listed_pot pots.now) index }
     ensures most { result ≤ MOST_AMOUNT }
 {

@@ -22,7 +22,7 @@ pub fn text_at(
     path: Path,
 ) -> Result<Option<Text>, ReadError<MemberFault>>
     ensures said { Gives (λ note. note) result
-        (or_none (text_note_said [] path) (values.field path (view ohh.now))) }
+        (or_none (text_note_said [] path) (values.member_at path (view ohh.now))) }
     ensures allowed { IfOk result (λ note. IfSome note IsNoteText) }
 {
     match field(ohh, path) {
@@ -44,7 +44,7 @@ pub fn label_at(
     default: &str,
 ) -> Result<Option<Text>, ReadError<MemberFault>>
     ensures said { Gives (λ note. note) result
-        (or_none (label_said default.now path) (values.field path (view ohh.now))) }
+        (or_none (label_said default.now path) (values.member_at path (view ohh.now))) }
     ensures allowed { IfOk result (λ note. IfSome note IsNoteText) }
 {
     let Some(value) = field(ohh, path) else {

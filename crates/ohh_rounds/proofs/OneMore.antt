@@ -12,13 +12,13 @@ use Rattle.card_set.specs.declared.card.Slot.{Slot}
 use Rattle.card_set.specs.Row.{slots_of}
 use Rattle.ohh_rounds.specs.declared.seat_so_far.SeatSoFar.{SeatSoFar}
 use Rattle.ohh_rounds.specs.StoredSeats.{IsSeatAfter}
-use Rattle.ohh_rounds.specs.Steps.{PlainActionEffect, PlainStep, Posted, Dealt, Happened, Passed, IsFoldBy, dealt_in, dealt_to, first_deal, has_folded, is_deal_to, is_fold_of, is_seat}
+use Rattle.ohh_rounds.specs.Steps.{PlainActionEffect, PlainStep, Posted, Dealt, Happened, Passed, IsFoldBy, dealt_in, dealt_to, first_deal, is_folded, is_deal_to, is_fold_of, is_seat}
 use Rattle.card_set.proofs.Entries.{at_other, at_set}
 use Rattle.card_set.proofs.Numbers.{different_number, same_number}
 use Rattle.card_set.proofs.Options.{or_nothing}
 
 -- one more step folds the seat, or does not
-pub folds : (seat : ℕ) (steps : List PlainStep) (step : PlainStep) → has_folded seat (steps ++ step ∷ []) ≡ (has_folded seat steps || is_fold_of seat step.effect)
+pub folds : (seat : ℕ) (steps : List PlainStep) (step : PlainStep) → is_folded seat (steps ++ step ∷ []) ≡ (is_folded seat steps || is_fold_of seat step.effect)
 folds seat steps step = list_any-push (λ x. is_fold_of seat x.effect) steps step
 
 dealt_parts : (seat : ℕ) (steps others : List PlainStep) → dealt_to seat (steps ++ others) ≡ dealt_to seat steps ++ dealt_to seat others
@@ -43,7 +43,7 @@ first_deals seat steps step =
 pub untold : (seat : ℕ) (steps : List PlainStep) (step : PlainStep) (kept : SeatSoFar) → is_fold_of seat step.effect ≡ false → dealt_in seat step.effect ≡ [] → is_deal_to seat step.effect ≡ false → IsSeatAfter seat steps kept → IsSeatAfter seat (steps ++ step ∷ []) kept
 untold seat steps step kept no_fold no_cards no_deal seen =
     record {
-      folded = seen.folded ∙ sym (folds seat steps step ∙ ap (λ b. has_folded seat steps || b) no_fold ∙ or_false (has_folded seat steps));
+      folded = seen.folded ∙ sym (folds seat steps step ∙ ap (λ b. is_folded seat steps || b) no_fold ∙ or_false (is_folded seat steps));
       cards = seen.cards ∙ sym (deals seat steps step ∙ ap (λ cards. dealt_to seat steps ++ cards) no_cards ∙ append-nil (dealt_to seat steps));
       first_deal = seen.first_deal ∙ sym (first_deals seat steps step ∙ ap (λ b. option_or (first_deal seat steps) (cond b (Some step.number) None)) no_deal ∙ or_nothing (first_deal seat steps));
     }
@@ -53,7 +53,7 @@ pub folded : (seat : ℕ) (steps : List PlainStep) (step : PlainStep) (before af
     → after.folded ≡ true → after.cards ≡ before.cards → after.first_deal ≡ before.first_deal → IsSeatAfter seat steps before → IsSeatAfter seat (steps ++ step ∷ []) after
 folded seat steps step before after fold no_cards no_deal is same_cards same_deal seen =
     record {
-      folded = is ∙ sym (folds seat steps step ∙ ap (λ b. has_folded seat steps || b) fold ∙ or-true (has_folded seat steps));
+      folded = is ∙ sym (folds seat steps step ∙ ap (λ b. is_folded seat steps || b) fold ∙ or-true (is_folded seat steps));
       cards = ap slots_of same_cards ∙ seen.cards ∙ sym (deals seat steps step ∙ ap (λ cards. dealt_to seat steps ++ cards) no_cards ∙ append-nil (dealt_to seat steps));
       first_deal = same_deal ∙ seen.first_deal ∙ sym (first_deals seat steps step ∙ ap (λ b. option_or (first_deal seat steps) (cond b (Some step.number) None)) no_deal ∙ or_nothing (first_deal seat steps));
     }
@@ -63,7 +63,7 @@ pub dealt : (seat : ℕ) (steps : List PlainStep) (step : PlainStep) (before aft
     → after.folded ≡ before.folded → slots_of after.cards ≡ slots_of before.cards ++ more → after.first_deal ≡ option_or before.first_deal (Some step.number) → IsSeatAfter seat steps before → IsSeatAfter seat (steps ++ step ∷ []) after
 dealt seat steps step before after more no_fold cards deal same_fold joined first seen =
     record {
-      folded = same_fold ∙ seen.folded ∙ sym (folds seat steps step ∙ ap (λ b. has_folded seat steps || b) no_fold ∙ or_false (has_folded seat steps));
+      folded = same_fold ∙ seen.folded ∙ sym (folds seat steps step ∙ ap (λ b. is_folded seat steps || b) no_fold ∙ or_false (is_folded seat steps));
       cards = joined ∙ ap (λ front. front ++ more) seen.cards ∙ sym (deals seat steps step ∙ ap (λ back. dealt_to seat steps ++ back) cards);
       first_deal = first ∙ ap (λ found. option_or found (Some step.number)) seen.first_deal ∙ sym (first_deals seat steps step ∙ ap (λ b. option_or (first_deal seat steps) (cond b (Some step.number) None)) deal);
     }

@@ -1,7 +1,7 @@
 -- How one more step counts.
 use Rattle.std.proofs.Common.{◌≡◌, ℕ, ◌+◌, ◌≤◌, Bool, true, false, not, cond, List, arith}
 use Rattle.play_event.specs.declared.hand_limits.TheConstants.{MOST_MOVES, MOST_OTHER_EVENTS}
-use Rattle.play_event.specs.PlayedScript.{is_move}
+use Rattle.play_event.specs.PlayedScript.{is_move_event}
 use Rattle.first_fault.specs.declared.limits.TheConstants.{MOST_FILE_MOVES}
 use Rattle.ohh_rounds.specs.Steps.{HasRoom, IsWithin, PlainActionEffect, PlainStep, Posted, Dealt, Happened, Passed, is_move_effect, is_other_effect, moves_in, others_in}
 
@@ -20,7 +20,7 @@ none_after seats file_moves moves others few = record { moves_few = omega (arith
 
 -- one more step exceeds no limit, if it may not
 pub counts_stay_few : (seats file_moves moves others : ℕ) (earlier : List PlainStep) (effect : PlainActionEffect) → moves ≡ moves_in earlier → others ≡ others_in earlier → IsWithin seats file_moves earlier effect → AreFew seats file_moves moves others → AreFew seats file_moves (moves + cond (is_move_effect effect) 1 0) (others + cond (is_other_effect effect) 1 0)
-counts_stay_few seats file_moves moves others earlier (Happened event) are_moves are_others within few = few_after seats file_moves moves others (is_move event) earlier are_moves are_others within few
+counts_stay_few seats file_moves moves others earlier (Happened event) are_moves are_others within few = few_after seats file_moves moves others (is_move_event event) earlier are_moves are_others within few
 counts_stay_few seats file_moves moves others earlier (Posted post) are_moves are_others within few = none_after seats file_moves moves others few
 counts_stay_few seats file_moves moves others earlier (Dealt seat slots) are_moves are_others within few = none_after seats file_moves moves others few
 counts_stay_few seats file_moves moves others earlier Passed are_moves are_others within few = none_after seats file_moves moves others few

@@ -3,7 +3,7 @@ use Rattle.std.specs.Prelude.{⊤, ℕ, ◌+◌, ◌==◌, nat_le, Bool, not, �
 use Rattle.serde_json.specs.Data.{Data}
 use Rattle.chip_ledger.specs.declared.numbers.TheConstants.{MOST_CHIPS}
 use Rattle.play_event.specs.declared.hand_limits.TheConstants.{MOST_MOVES, MOST_OTHER_EVENTS}
-use Rattle.play_event.specs.PlayedScript.{is_move}
+use Rattle.play_event.specs.PlayedScript.{is_move_event}
 use Rattle.first_fault.specs.declared.limits.TheConstants.{MOST_FILE_MOVES}
 use Rattle.first_fault.specs.declared.limits.Quantity.TheVariants as quantities
 use Rattle.play_event.specs.declared.event.Spelled.{Spelled}
@@ -20,7 +20,7 @@ use Rattle.ohh_members.specs.declared.fault.Path.{Path}
 use Rattle.ohh_members.specs.declared.fault.Path.TheVariants as paths
 use Rattle.ohh_members.specs.declared.fault.MemberFaultKind.TheVariants as whats
 use Rattle.ohh_members.specs.declared.fault.MemberFault.{MemberFault}
-use Rattle.ohh_members.specs.Values.{cards_said, few_said, field, number_said, object_said, or_wrong, player_said, required, slots_said, text_said, wrong}
+use Rattle.ohh_members.specs.Values.{cards_said, few_said, member_at, number_said, object_said, or_wrong, player_said, required_value, slots_said, text_said, wrong}
 use Rattle.ohh_rounds.specs.declared.post.ActionLocation.{ActionLocation}
 use Rattle.ohh_rounds.specs.declared.post.PostKind.{PostKind}
 use Rattle.ohh_rounds.specs.declared.post.PostKind.TheVariants as kinds
@@ -28,7 +28,7 @@ use Rattle.ohh_rounds.specs.NamedBlinds.{seat_count}
 use Rattle.ohh_members.specs.declared.words.Word.{Word}
 use Rattle.ohh_members.specs.declared.words.Word.TheVariants as words
 use Rattle.ohh_members.specs.Words.{is_deal, word_named}
-use Rattle.ohh_rounds.specs.Steps.{PlainActionEffect, PlainStep, Posted, Dealt, Happened, Passed, dealt_to, has_folded, moves_in, next_number, others_in}
+use Rattle.ohh_rounds.specs.Steps.{PlainActionEffect, PlainStep, Posted, Dealt, Happened, Passed, dealt_to, is_folded, moves_in, next_number, others_in}
 use Rattle.ohh_rounds.specs.HandContext.{PlainHandContext}
 
 -- the path of a member of an action
@@ -38,7 +38,8 @@ at_action place member = paths.Round place.round (rounds.Action place.action mem
 -- the word of an action: one of the supported words; hole cards are dealt in the first round only
 unfoldable pub word_said : ActionLocation → Data → Result Word MemberFault
 word_said place action = do
-  text ← required (at_action place members.Word) action >>= text_said (at_action place members.Word)
+  text ← required_value (at_action place members.Word) action
+      >>= text_said (at_action place members.Word)
   word ← or_wrong whats.UnsupportedAction (at_action place members.Word) (word_named text)
   if is_deal word && not (place.round == 0)
       then wrong whats.BadStreet (at_action place members.Word)
@@ -47,13 +48,13 @@ word_said place action = do
 -- the seat of the action's player
 unfoldable pub seat_said : PlainHandContext → ActionLocation → Data → Result ℕ MemberFault
 seat_said setting place action =
-    required (at_action place members.PlayerId) action
+    required_value (at_action place members.PlayerId) action
     >>= player_said setting.ids (at_action place members.PlayerId)
 
 -- the action's amount, in chips
 unfoldable pub chips_said : ActionLocation → Data → Result ℕ MemberFault
 chips_said place action =
-    required (at_action place members.Amount) action
+    required_value (at_action place members.Amount) action
     >>= number_said 0 MOST_CHIPS (at_action place members.Amount)
 
 -- a post of some chips; it is early if it comes on the first street before any move
@@ -76,7 +77,7 @@ listed_cards earlier path seat cards = do
 -- hole cards, or none if they are missing
 unfoldable pub dealt_cards : List PlainStep → ActionLocation → ℕ → Data
     → Result PlainActionEffect MemberFault
-dealt_cards earlier place seat action = elim (field (at_action place members.Cards) action) [
+dealt_cards earlier place seat action = elim (member_at (at_action place members.Cards) action) [
   | None ↦ Ok (Dealt seat [])
   | Some cards ↦ listed_cards earlier (at_action place members.Cards) seat cards
 ]
@@ -101,13 +102,13 @@ raised dialect place seat action =
 -- a show of cards
 unfoldable pub shown : ActionLocation → ℕ → Data → Result PlainActionEffect MemberFault
 shown place seat action = do
-  cards ← required (at_action place members.Cards) action
+  cards ← required_value (at_action place members.Cards) action
       >>= cards_said (at_action place members.Cards)
   Ok (Happened (said.Show seat cards))
 
 -- a muck, which is ignored if the player folded before
 abbrev pub mucked : List PlainStep → ℕ → PlainActionEffect
-mucked earlier seat = if has_folded seat earlier then Passed else Happened (said.Muck seat)
+mucked earlier seat = if is_folded seat earlier then Passed else Happened (said.Muck seat)
 
 -- what a word means for a player
 unfoldable pub effect_said : PlainHandContext → List PlainStep → ActionLocation → ℕ → Data → Word
@@ -137,7 +138,7 @@ effect_said setting earlier place seat action words.StandsUp = Ok Passed
 unfoldable pub event_counted : PlainHandContext → List PlainStep → Path → Said
     → Result ⊤ MemberFault
 event_counted setting earlier path event =
-    if is_move event
+    if is_move_event event
     then (if nat_le MOST_MOVES (moves_in earlier) then wrong (whats.TooMany quantities.Moves) path
     else if nat_le MOST_FILE_MOVES (setting.file_moves + moves_in earlier)
     then wrong (whats.TooMany quantities.FileMoves) path

@@ -7,7 +7,7 @@ use Rattle.chip_ledger.specs.declared.seat_row.SeatRow.{SeatRow}
 use Rattle.chip_ledger.specs.Seat.{seats_of}
 use Rattle.chip_ledger.specs.SeatRow.{amount_of, amounts_in}
 use Rattle.ohh_rounds.specs.declared.antes_and_blinds.AntesAndBlinds.{AntesAndBlinds}
-use Rattle.ohh_rounds.specs.NamedBlinds.{PlainNamedBlinds, big_blind_seat, seat_count, small_blind_seat, stack_of}
+use Rattle.ohh_rounds.specs.NamedBlinds.{PlainNamedBlinds, seat_count, seat_of_big_blind, seat_of_small_blind, stack_of}
 use Rattle.ohh_rounds.specs.Posts.{PlainPost, ante_of, first_straddle}
 use Rattle.ohh_rounds.specs.PostRules.{has_all_antes}
 
@@ -43,8 +43,8 @@ are_dead table posts =
 -- the blind of a seat as it is named: one of the two blinds, or a straddle, or 0
 abbrev pub named_blind : PlainNamedBlinds → List PlainPost → ℕ → ℕ
 named_blind table posts seat =
-    if seat == small_blind_seat table then table.small_blind
-    else if seat == big_blind_seat table then table.big_blind
+    if seat == seat_of_small_blind table then table.small_blind
+    else if seat == seat_of_big_blind table then table.big_blind
     else option_map_or (λ straddle. straddle) (first_straddle seat posts) 0
 
 -- the antes and blinds of all seats

@@ -17,7 +17,7 @@ pub record PlainHandContext : Type 0 where
 abbrev pub plain_setting : HandContext → PlainHandContext
 plain_setting setting =
     record {
-      ids = setting.ids.now;
+      ids = setting.players.ids.now;
       table = plain_named_blinds setting.table;
       hole_cards = setting.hole_cards;
       dialect = setting.dialect;

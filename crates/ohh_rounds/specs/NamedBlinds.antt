@@ -24,12 +24,12 @@ abbrev pub seat_count : PlainNamedBlinds → ℕ
 seat_count table = length table.stacks
 
 -- the seat of the small blind: p1, or p2 if there are two seats
-abbrev pub small_blind_seat : PlainNamedBlinds → ℕ
-small_blind_seat table = small_blind_of (seat_count table)
+abbrev pub seat_of_small_blind : PlainNamedBlinds → ℕ
+seat_of_small_blind table = small_blind_of (seat_count table)
 
 -- the seat of the big blind: p2, or p1 if there are two seats
-abbrev pub big_blind_seat : PlainNamedBlinds → ℕ
-big_blind_seat table = big_blind_of (seat_count table)
+abbrev pub seat_of_big_blind : PlainNamedBlinds → ℕ
+seat_of_big_blind table = big_blind_of (seat_count table)
 
 -- the stack of a seat
 abbrev pub stack_of : PlainNamedBlinds → ℕ → ℕ

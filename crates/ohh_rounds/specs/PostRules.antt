@@ -10,7 +10,7 @@ use Rattle.ohh_rounds.specs.declared.post.PostFault.TheVariants as faults
 use Rattle.ohh_rounds.specs.declared.checking.PostFacts.{PostFacts}
 use Rattle.ohh_rounds.specs.declared.checking.PostRule.{PostRule}
 use Rattle.ohh_rounds.specs.declared.checking.PostRule.TheVariants as conditions
-use Rattle.ohh_rounds.specs.NamedBlinds.{PlainNamedBlinds, big_blind_seat, plain_named_blinds, seat_count, small_blind_seat, stack_of}
+use Rattle.ohh_rounds.specs.NamedBlinds.{PlainNamedBlinds, plain_named_blinds, seat_count, seat_of_big_blind, seat_of_small_blind, stack_of}
 use Rattle.ohh_rounds.specs.Posts.{AreFirst, PlainPost, ante_of, first_ante, first_straddle, has_big_blind, has_small_blind, is_ante, is_big_blind, is_small_blind, is_straddle}
 
 -- the stack of a seat without its ante, 0 if the ante is more than the stack
@@ -35,8 +35,8 @@ is_second_blind before post =
 -- the post is a blind that belongs to another seat
 abbrev pub is_misplaced_blind : PlainNamedBlinds → PlainPost → Bool
 is_misplaced_blind table post =
-    (is_small_blind post.kind && not (post.seat == small_blind_seat table))
-    || (is_big_blind post.kind && not (post.seat == big_blind_seat table))
+    (is_small_blind post.kind && not (post.seat == seat_of_small_blind table))
+    || (is_big_blind post.kind && not (post.seat == seat_of_big_blind table))
 
 -- the post is a blind that is not the smaller of its named amount and the stack without the ante
 abbrev pub is_wrong_blind : PlainNamedBlinds → List PlainPost → PlainPost → Bool

@@ -10,7 +10,7 @@ use Rattle.ohh_members.specs.declared.fault.Path.{Path}
 use Rattle.ohh_members.specs.declared.fault.Path.TheVariants as paths
 use Rattle.ohh_members.specs.declared.fault.MemberFaultKind.TheVariants as whats
 use Rattle.ohh_members.specs.declared.fault.MemberFault.{MemberFault}
-use Rattle.ohh_members.specs.Values.{cards_said, field, list_said, object_said, or_wrong, required, text_said, wrong}
+use Rattle.ohh_members.specs.Values.{cards_said, list_said, member_at, object_said, or_wrong, required_value, text_said, wrong}
 use Rattle.ohh_members.specs.declared.street.StreetName.{StreetName}
 use Rattle.ohh_rounds.specs.Streets.{has_board_cards, street_after}
 use Rattle.ohh_rounds.specs.Steps.{PlainStep, Happened}
@@ -24,7 +24,7 @@ at_round round member = paths.Round round member
 -- the street of a round after the last one
 unfoldable pub street_said : Option StreetName → ℕ → Data → Result StreetName MemberFault
 street_said last index round = do
-  text ← required (at_round index members.Street) round
+  text ← required_value (at_round index members.Street) round
       >>= text_said (at_round index members.Street)
   or_wrong whats.BadStreet (at_round index members.Street) (street_after last text)
 
@@ -36,7 +36,7 @@ no_cards path cards = do
 
 -- the board cards of a round: known ones if its street deals some, and none if they are missing
 unfoldable pub board_said : StreetName → ℕ → Data → Result (List Card) MemberFault
-board_said street index round = elim (field (at_round index members.Cards) round) [
+board_said street index round = elim (member_at (at_round index members.Cards) round) [
   | None ↦ Ok []
   | Some cards ↦
       if has_board_cards street
@@ -69,7 +69,7 @@ actions_added setting round earlier items = added_from (action_added setting rou
 abbrev pub actions_said : PlainHandContext → ℕ → List PlainStep → Data
     → Result (List PlainStep) MemberFault
 actions_said setting index earlier round = do
-  items ← required (at_round index members.Actions) round
+  items ← required_value (at_round index members.Actions) round
       >>= list_said (at_round index members.Actions)
   actions_added setting index earlier items
 
@@ -97,7 +97,7 @@ round_said setting before index value = do
 -- the list of rounds: at least one
 unfoldable pub rounds_listed : Data → Result (List Data) MemberFault
 rounds_listed ohh = do
-  items ← required paths.Rounds ohh >>= list_said paths.Rounds
+  items ← required_value paths.Rounds ohh >>= list_said paths.Rounds
   if length items == 0 then wrong whats.BadStreet paths.Rounds else Ok items
 
 -- the steps of a list of rounds

@@ -4,7 +4,7 @@ use Rattle.std.specs.List.{list_any}
 use Rattle.card_set.specs.declared.card.Slot.{Slot}
 use Rattle.card_set.specs.Row.{slots_of}
 use Rattle.play_event.specs.declared.hand_limits.TheConstants.{MOST_MOVES, MOST_OTHER_EVENTS}
-use Rattle.play_event.specs.PlayedScript.{is_move}
+use Rattle.play_event.specs.PlayedScript.{is_move_event}
 use Rattle.first_fault.specs.declared.limits.TheConstants.{MOST_FILE_MOVES}
 use Rattle.play_event.specs.Said as said
 use Rattle.play_event.specs.Said.{Said, kind_said}
@@ -47,14 +47,14 @@ next_number steps = saturated (count_by is_action steps + 1)
 
 -- a move was made
 abbrev pub is_move_effect : PlainActionEffect → Bool
-is_move_effect (Happened event) = is_move event
+is_move_effect (Happened event) = is_move_event event
 is_move_effect (Posted post) = false
 is_move_effect (Dealt seat slots) = false
 is_move_effect Passed = false
 
 -- another event of the script happened
 abbrev pub is_other_effect : PlainActionEffect → Bool
-is_other_effect (Happened event) = not (is_move event)
+is_other_effect (Happened event) = not (is_move_event event)
 is_other_effect (Posted post) = false
 is_other_effect (Dealt seat slots) = false
 is_other_effect Passed = false
@@ -99,8 +99,8 @@ IsFoldBy seat (Dealt other slots) = ⊥
 IsFoldBy seat Passed = ⊥
 
 -- the seat folded in one of the steps
-abbrev pub has_folded : ℕ → List PlainStep → Bool
-has_folded seat steps = list_any (λ step. is_fold_of seat step.effect) steps
+abbrev pub is_folded : ℕ → List PlainStep → Bool
+is_folded seat steps = list_any (λ step. is_fold_of seat step.effect) steps
 
 -- the hole cards that a step deals to the seat
 abbrev pub dealt_in : ℕ → PlainActionEffect → List Slot
@@ -135,7 +135,7 @@ HasRoom seats file_moves false earlier = seats + others_in earlier < MOST_OTHER_
 -- the event of a step exceeds no limit
 abbrev pub IsWithin : ℕ → ℕ → List PlainStep → PlainActionEffect → Type 0
 IsWithin seats file_moves earlier (Happened event) =
-    HasRoom seats file_moves (is_move event) earlier
+    HasRoom seats file_moves (is_move_event event) earlier
 IsWithin seats file_moves earlier (Posted post) = Unit {0}
 IsWithin seats file_moves earlier (Dealt seat slots) = Unit {0}
 IsWithin seats file_moves earlier Passed = Unit {0}

@@ -2,11 +2,11 @@
 use Rattle.std.specs.Prelude.{◌≡◌, ℕ, ◌-◌, ◌≤◌, List, length, Some, slice_get}
 use Rattle.card_set.specs.Row.{slots_of}
 use Rattle.ohh_rounds.specs.declared.seat_so_far.SeatSoFar.{SeatSoFar}
-use Rattle.ohh_rounds.specs.Steps.{PlainStep, dealt_to, first_deal, has_folded}
+use Rattle.ohh_rounds.specs.Steps.{PlainStep, dealt_to, first_deal, is_folded}
 
 -- what is stored of a seat agrees with the steps
 pub record IsSeatAfter (seat : ℕ) (steps : List PlainStep) (kept : SeatSoFar) : Type 0 where
-  pub folded : kept.folded ≡ has_folded seat steps
+  pub folded : kept.folded ≡ is_folded seat steps
   pub cards : slots_of kept.cards ≡ dealt_to seat steps
   pub first_deal : kept.first_deal ≡ first_deal seat steps
 

@@ -3,7 +3,7 @@ ghost use Rattle.std.specs.Prelude.{◌≡◌, ◌≤◌, ◌+◌, IfOk, length,
 ghost use Rattle.serde_json.specs.View.{view};
 ghost use Rattle.card_set.specs.Row.{slots_of};
 ghost use Rattle.play_event.specs.Said.{kind_said};
-ghost use Rattle.play_event.specs.PlayedScript.{is_move};
+ghost use Rattle.play_event.specs.PlayedScript.{is_move_event};
 ghost use Rattle.first_fault.specs.Reading.{Gives};
 ghost use Rattle.ohh_rounds.specs.Actions.{at_action, called, chips_said, dealt_cards, effect_counted, effect_said, event_counted, mucked, posted, raise_by, raised, seat_said, shown, step_said, word_said};
 ghost use Rattle.ohh_rounds.specs.HandContext.{plain_setting};
@@ -22,7 +22,7 @@ use ohh_members::values::{
     fault_at, field, read_cards, read_few, read_number, read_object, read_player, read_slots,
     read_text, required,
 };
-use ohh_members::words::{Word, is_deal, word_named};
+use ohh_members::words::{Word, deals_hole_cards, parse_word};
 use play_event::{Kind, MOST_MOVES, MOST_OTHER_EVENTS, Spelled};
 use serde_json::Value;
 
@@ -58,10 +58,10 @@ fn read_word(place: ActionLocation, action: &Value) -> Result<Word, ReadError<Me
 {
     let path = path_of(place, ActionMember::Word);
     let text = read_text(required(action, path)?, path)?;
-    let Some(word) = word_named(text) else {
+    let Some(word) = parse_word(text) else {
         return Err(fault_at(MemberFaultKind::UnsupportedAction, path));
     };
-    if is_deal(word) && place.round != 0 {
+    if deals_hole_cards(word) && place.round != 0 {
         return Err(fault_at(MemberFaultKind::BadStreet, path));
     }
     Ok(word)
@@ -78,7 +78,7 @@ fn read_seat(
         (seat_said (plain_setting seen.now.setting) place (view action.now)) }
 {
     let path = path_of(place, ActionMember::PlayerId);
-    read_player(required(action, path)?, seen.setting.ids, path)
+    read_player(required(action, path)?, &seen.setting.players, path)
 }
 
 // What a word means for a player.
@@ -316,7 +316,7 @@ pub fn count_event(seen: &RoundsSoFar, path: Path, kind: Kind) -> Result<(), Rea
     ensures said { Gives (λ x. x) result (event_counted (plain_setting seen.now.setting)
         (map plain_step seen.now.steps.items) path (kind_said kind)) }
     ensures room { IfOk result (λ x. HasRoom seen.now.setting.table.stacks.seats
-        seen.now.setting.file_moves (is_move (kind_said kind))
+        seen.now.setting.file_moves (is_move_event (kind_said kind))
         (map plain_step seen.now.steps.items)) }
 {
     if kind.is_move() {

@@ -37,7 +37,7 @@ impl AntesAndBlinds {
         let antes = antes_of(table, &firsts);
         AntesAndBlinds {
             antes,
-            dead_antes: are_dead(table, &firsts, &antes),
+            dead_antes: has_dead_antes(table, &firsts, &antes),
             blinds: blinds_of(table, &firsts),
         }
     }
@@ -103,7 +103,7 @@ fn named(table: &NamedBlinds, firsts: &PostsSoFar, seat: Seat) -> u64
 }
 
 // Whether some seats post an ante, but not all.
-fn are_dead(table: &NamedBlinds, firsts: &PostsSoFar, antes: &SeatRow) -> bool
+fn has_dead_antes(table: &NamedBlinds, firsts: &PostsSoFar, antes: &SeatRow) -> bool
     requires { antes.now.seats ≡ table.now.stacks.seats }
     ensures { (posts : List PlainPost) → AreFirst posts firsts.now
         → result

@@ -31,7 +31,7 @@ pub fn seats_after(
             seats[index] = with_deal(seats[index], cards, step.number);
             seats
         }
-        ActionEffect::Happened(kind) => match folder(kind) {
+        ActionEffect::Happened(kind) => match find_folding_seat(kind) {
             Some(seat) => {
                 let index = seat.number as usize - 1;
                 seats[index] = with_fold(seats[index]);
@@ -79,7 +79,7 @@ fn first_of(first: Option<u32>, number: u32) -> Option<u32>
 }
 
 // The seat that folds, if the event is a fold.
-fn folder(kind: Kind) -> Option<Seat>
+fn find_folding_seat(kind: Kind) -> Option<Seat>
     ensures { option_map (λ seat. seat.number) result ≡ round_steps.folder (kind_said kind) }
 {
     match kind {

@@ -98,7 +98,7 @@ fn hold(condition: PostRule, facts: &PostFacts, posts: &[Post]) -> Result<(), Po
 {
     let mut before = PostsSoFar::none();
     for post in posts {
-        if is_breaking(condition, facts, &before, post) {
+        if breaks_rule(condition, facts, &before, post) {
             return Err(PostFault::At(post.place));
         }
         before.note(post);
@@ -108,7 +108,7 @@ fn hold(condition: PostRule, facts: &PostFacts, posts: &[Post]) -> Result<(), Po
 
 // Whether a post breaks a condition, after these posts.
 #[tactic(auto, unfolding(crate::specs::PostRules::is_breaking))]
-fn is_breaking(condition: PostRule, facts: &PostFacts, before: &PostsSoFar, post: &Post) -> bool
+fn breaks_rule(condition: PostRule, facts: &PostFacts, before: &PostsSoFar, post: &Post) -> bool
     ensures { (posts earlier : List PlainPost) → AreFacts posts facts.now
         → AreFirst earlier before.now
         → result
@@ -117,17 +117,17 @@ fn is_breaking(condition: PostRule, facts: &PostFacts, before: &PostsSoFar, post
 {
     match condition {
         PostRule::Early => !post.early,
-        PostRule::OneOfEachBlind => is_second_blind(before, post),
-        PostRule::BlindSeats => is_misplaced_blind(&facts.table, post),
-        PostRule::BlindAmounts => is_wrong_blind(facts, post),
-        PostRule::Straddles => is_wrong_straddle(facts, before, post),
-        PostRule::Antes => is_wrong_ante(&facts.table, before, post),
-        PostRule::EvenAntes => is_uneven_ante(facts, post),
+        PostRule::OneOfEachBlind => breaks_blind_count_rule(before, post),
+        PostRule::BlindSeats => breaks_blind_seat_rule(&facts.table, post),
+        PostRule::BlindAmounts => breaks_blind_amount_rule(facts, post),
+        PostRule::Straddles => breaks_straddle_rule(facts, before, post),
+        PostRule::Antes => breaks_ante_rule(&facts.table, before, post),
+        PostRule::EvenAntes => breaks_even_ante_rule(facts, post),
     }
 }
 
 // Whether a post is a second small blind or a second big blind.
-fn is_second_blind(before: &PostsSoFar, post: &Post) -> bool
+fn breaks_blind_count_rule(before: &PostsSoFar, post: &Post) -> bool
     ensures { (earlier : List PlainPost) → AreFirst earlier before.now
         → result ≡ conditions.is_second_blind earlier (plain_post post.now) }
 {
@@ -139,7 +139,7 @@ fn is_second_blind(before: &PostsSoFar, post: &Post) -> bool
 }
 
 // Whether a post is a blind that belongs to another seat.
-fn is_misplaced_blind(table: &NamedBlinds, post: &Post) -> bool
+fn breaks_blind_seat_rule(table: &NamedBlinds, post: &Post) -> bool
     ensures { result
         ≡ conditions.is_misplaced_blind (plain_named_blinds table.now) (plain_post post.now) }
 {
@@ -152,7 +152,7 @@ fn is_misplaced_blind(table: &NamedBlinds, post: &Post) -> bool
 
 // Whether a post is a blind that is not the smaller of its named amount and the stack without the
 // ante.
-fn is_wrong_blind(facts: &PostFacts, post: &Post) -> bool
+fn breaks_blind_amount_rule(facts: &PostFacts, post: &Post) -> bool
     ensures { (posts : List PlainPost) → AreFacts posts facts.now
         → result ≡ conditions.is_wrong_blind (plain_named_blinds facts.now.table) posts
         (plain_post post.now) }
@@ -167,7 +167,7 @@ fn is_wrong_blind(facts: &PostFacts, post: &Post) -> bool
 
 // Whether a post is a straddle of a seat in the blinds, of no chips, a second one of its seat, or
 // more than the stack has left.
-fn is_wrong_straddle(facts: &PostFacts, before: &PostsSoFar, post: &Post) -> bool
+fn breaks_straddle_rule(facts: &PostFacts, before: &PostsSoFar, post: &Post) -> bool
     ensures { (posts earlier : List PlainPost) → AreFacts posts facts.now
         → AreFirst earlier before.now
         → result ≡ conditions.is_wrong_straddle (plain_named_blinds facts.now.table) posts earlier
@@ -185,7 +185,7 @@ fn is_wrong_straddle(facts: &PostFacts, before: &PostsSoFar, post: &Post) -> boo
 }
 
 // Whether a post is an ante above the stack, of no chips, or a second one of its seat.
-fn is_wrong_ante(table: &NamedBlinds, before: &PostsSoFar, post: &Post) -> bool
+fn breaks_ante_rule(table: &NamedBlinds, before: &PostsSoFar, post: &Post) -> bool
     ensures { (earlier : List PlainPost) → AreFirst earlier before.now
         → result
         ≡ conditions.is_wrong_ante (plain_named_blinds table.now) earlier (plain_post post.now) }
@@ -203,7 +203,7 @@ fn is_wrong_ante(table: &NamedBlinds, before: &PostsSoFar, post: &Post) -> bool
 
 // Whether every seat posts an ante, and this one is not the smaller of the greatest ante and the
 // stack.
-fn is_uneven_ante(facts: &PostFacts, post: &Post) -> bool
+fn breaks_even_ante_rule(facts: &PostFacts, post: &Post) -> bool
     ensures { (posts : List PlainPost) → AreFacts posts facts.now
         → result ≡ conditions.is_uneven_ante (plain_named_blinds facts.now.table) posts
         (plain_post post.now) }

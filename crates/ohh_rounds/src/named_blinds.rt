@@ -16,7 +16,7 @@ pub struct NamedBlinds {
 
 impl NamedBlinds {
     ghost use Rattle.std.specs.Prelude.{◌≡◌};
-    ghost use Rattle.ohh_rounds.specs.NamedBlinds.{big_blind_seat, plain_named_blinds, small_blind_seat, stack_of};
+    ghost use Rattle.ohh_rounds.specs.NamedBlinds.{plain_named_blinds, seat_of_big_blind, seat_of_small_blind, stack_of};
 
     /// The stack of a seat, or 0 if the hand has no such seat.
     #[tactic(auto, using(card_set::proofs::Entries::at_taken))]
@@ -29,7 +29,7 @@ impl NamedBlinds {
     /// The seat of the small blind.
     #[tactic(auto, using(crate::proofs::Stacks::seats_in))]
     pub fn small_blind_seat(&self) -> u8
-        ensures { result ≡ small_blind_seat (plain_named_blinds self.now) }
+        ensures { result ≡ seat_of_small_blind (plain_named_blinds self.now) }
     {
         if self.stacks.seats == 2 { 2 } else { 1 }
     }
@@ -37,7 +37,7 @@ impl NamedBlinds {
     /// The seat of the big blind.
     #[tactic(auto, using(crate::proofs::Stacks::seats_in))]
     pub fn big_blind_seat(&self) -> u8
-        ensures { result ≡ big_blind_seat (plain_named_blinds self.now) }
+        ensures { result ≡ seat_of_big_blind (plain_named_blinds self.now) }
     {
         if self.stacks.seats == 2 { 1 } else { 2 }
     }

@@ -1,7 +1,7 @@
 //! Checks the posts of a hand, and puts its script together.
 ghost use Rattle.std.specs.Prelude.{◌≡◌, ◌≤◌, ◌+◌, ◌++◌, IfOk, OnOk, count_by, map};
 ghost use Rattle.serde_json.specs.View.{view};
-ghost use Rattle.play_event.specs.PlayedScript.{IsWithinLimits, is_move};
+ghost use Rattle.play_event.specs.PlayedScript.{IsWithinLimits, is_move_event};
 ghost use Rattle.card_set.specs.Row.{slots_of};
 ghost use Rattle.chip_ledger.specs.Seat.{seats_of};
 ghost use Rattle.first_fault.specs.declared.limits.TheConstants.{MOST_FILE_MOVES};
@@ -58,7 +58,7 @@ pub fn read_rounds(
         AreAntesAndBlindsFor setting.now.table.stacks play.stakes) }
     ensures within { IfOk result (λ play. IsWithinLimits (map said_of play.script)) }
     ensures moves { IfOk result (λ play. play.file_moves
-        ≡ setting.now.file_moves + count_by is_move (map said_of play.script)) }
+        ≡ setting.now.file_moves + count_by is_move_event (map said_of play.script)) }
     ensures few { IfOk result (λ play. play.file_moves ≤ MOST_FILE_MOVES) }
 {
     let seen = read_all_rounds(alloc, setting, ohh)?;
@@ -154,13 +154,13 @@ fn hole_deals(alloc: Global, seen: &RoundsSoFar) -> Result<Script, Memory>
 {
     let mut script = Script::new(alloc);
     for index in 0..seen.setting.table.stacks.seats {
-        script.push(hole_deal(seen, Seat { number: index + 1 }))?;
+        script.push(make_hole_deal(seen, Seat { number: index + 1 }))?;
     }
     Ok(script)
 }
 
 // The deal of a seat's hole cards.
-fn hole_deal(seen: &RoundsSoFar, seat: Seat) -> Event
+fn make_hole_deal(seen: &RoundsSoFar, seat: Seat) -> Event
     ensures { numbered result ≡ hand_play.hole_deal seen.now.setting.hole_cards
         (map plain_step seen.now.steps.items) seat.number }
 {

@@ -12,7 +12,7 @@ use crate::hand_context::HandContext;
 use crate::post::ActionLocation;
 use crate::rounds_so_far::RoundsSoFar;
 use crate::step::{ActionEffect, RoundStep};
-use crate::street::{has_board_cards, street_after};
+use crate::street::{deals_board_cards, parse_next_street};
 use card_set::CardRow;
 use first_fault::ReadError;
 use ohh_members::fault::{MemberFault, MemberFaultKind, Path, RoundMember};
@@ -89,7 +89,7 @@ fn read_street(
 {
     let path = path_of(index, RoundMember::Street);
     let text = read_text(required(round, path)?, path)?;
-    match street_after(last, text) {
+    match parse_next_street(last, text) {
         Some(street) => Ok(street),
         None => Err(fault_at(MemberFaultKind::BadStreet, path)),
     }
@@ -107,7 +107,7 @@ fn read_board(
     let path = path_of(index, RoundMember::Cards);
     match field(round, path) {
         None => Ok(CardRow::new()),
-        Some(cards) => if has_board_cards(street) {
+        Some(cards) => if deals_board_cards(street) {
             read_cards(cards, path)
         } else {
             read_no_cards(cards, path)

@@ -36,7 +36,7 @@ pub struct RoundsSoFar<'a> {
 
 impl<'a> RoundsSoFar<'a> {
     ghost use Rattle.std.specs.Prelude.{◌∷◌, ◌++◌, [], OnOk};
-    ghost use Rattle.ohh_rounds.specs.Steps.{IsWithin, LeavesFew, dealt_to, has_folded, plain_effect};
+    ghost use Rattle.ohh_rounds.specs.Steps.{IsWithin, LeavesFew, dealt_to, is_folded, plain_effect};
 
     /// The state before the first step.
     pub fn none(alloc: Global, setting: &HandContext<'a>) -> Self
@@ -60,7 +60,7 @@ impl<'a> RoundsSoFar<'a> {
 
     /// Whether the seat folded.
     pub fn has_folded(&self, seat: Seat) -> bool
-        ensures { result ≡ has_folded seat.number (map plain_step self.now.steps.items) }
+        ensures { result ≡ is_folded seat.number (map plain_step self.now.steps.items) }
     {
         self.seat(seat).folded
     }

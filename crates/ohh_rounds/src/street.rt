@@ -7,7 +7,7 @@ use ohh_members::street::{StreetName, name_of};
 
 /// The street that a text names, if it may come after the last one.
 #[tactic(auto, unfolding(crate::specs::Streets::street_after))]
-pub fn street_after(last: Option<StreetName>, text: &str) -> Option<StreetName>
+pub fn parse_next_street(last: Option<StreetName>, text: &str) -> Option<StreetName>
     ensures { result ≡ streets.street_after last text.now }
 {
     let Some(last) = last else {
@@ -38,7 +38,7 @@ fn named(street: StreetName, text: &str) -> Option<StreetName>
 }
 
 /// Whether the street deals cards to the board.
-pub fn has_board_cards(street: StreetName) -> bool
+pub fn deals_board_cards(street: StreetName) -> bool
     ensures { result ≡ streets.has_board_cards street }
 {
     match street {

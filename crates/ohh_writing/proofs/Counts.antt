@@ -23,7 +23,7 @@ use Rattle.ohh_writing.specs.declared.action.Round.{Round}
 use Rattle.ohh_members.specs.declared.street.StreetName.{StreetName}
 use Rattle.ohh_members.specs.declared.street.StreetName.TheVariants as streets
 use Rattle.ohh_members.specs.declared.words.Word.TheVariants as words
-use Rattle.ohh_writing.specs.Actions.{PlainAction, act_written, action_said, alone, ante_post, big_blind_seat, blind_post, deal_written, deals, has_known, move_written, moves_written, posts, showing, showings, small_blind_seat, straddle_post, with_cards, with_chips}
+use Rattle.ohh_writing.specs.Actions.{PlainAction, act_written, action_said, alone, ante_post, blind_post, deal_written, deals, has_known_card, move_written, moves_written, posts, seat_of_big_blind, seat_of_small_blind, showing, showings, straddle_post, with_cards, with_chips}
 use Rattle.ohh_writing.specs.Rounds.{PlainRound, board_round, board_round_on, round, first_actions, hand_rounds, moves_on, round_said, showdown_round}
 use Rattle.card_set.proofs.Lists.{either_few, one_at_most, where_few}
 
@@ -36,7 +36,7 @@ posts_few setup =
     let antes = flat_map (ante_post setup) (all_seats setup) in
     let straddles = flat_map (straddle_post setup) (all_seats setup) in
     let blinds : List PlainAction =
-    blind_post setup words.PostSmallBlind (small_blind_seat setup) ∷ blind_post setup words.PostBigBlind (big_blind_seat setup) ∷ straddles in
+    blind_post setup words.PostSmallBlind (seat_of_small_blind setup) ∷ blind_post setup words.PostBigBlind (seat_of_big_blind setup) ∷ straddles in
     omega (
       arith,
       length-append antes blinds,
@@ -47,7 +47,7 @@ posts_few setup =
 deals_few : (setup : Setup) (placed : List TracedPlace) → length (deals setup placed) ≤ 10
 deals_few setup placed =
     seats_few (λ seat. deal_written seat (dealt_slots placed (Some seat) 1)) setup
-    (λ seat. one_at_most (has_known (dealt_slots placed (Some seat) 1)) (with_cards words.DealtCards seat (dealt_slots placed (Some seat) 1)))
+    (λ seat. one_at_most (has_known_card (dealt_slots placed (Some seat) 1)) (with_cards words.DealtCards seat (dealt_slots placed (Some seat) 1)))
 
 showings_few : (trace : Trace) → length (showings trace) ≤ 10
 showings_few trace =

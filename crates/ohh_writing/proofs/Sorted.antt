@@ -7,7 +7,7 @@ use Rattle.hand_canon.specs.declared.notes.Notes.{Notes}
 use Rattle.hand_canon.specs.declared.trace.Trace.{Trace}
 use Rattle.ohh_members.specs.declared.dialect.Dialect.{Dialect}
 use Rattle.hand_canon.specs.declared.notes.Moment.{Moment}
-use Rattle.ohh_writing.specs.Actions.{PlainDetail, Nothing, Chips, Cards, small_blind_seat}
+use Rattle.ohh_writing.specs.Actions.{PlainDetail, Nothing, Chips, Cards, seat_of_small_blind}
 use Rattle.ohh_writing.specs.Games.{game_word}
 use Rattle.ohh_writing.specs.Moment.{moment_of}
 use Rattle.ohh_writing.specs.Rounds.{hand_rounds}
@@ -55,7 +55,7 @@ members_sorted (Some moment) ante bet big currency dealer number game version pl
 
 abbrev pub with_setup : Setup → Members → Members
 with_setup setup members =
-    put (codes "small_blind_amount") (whole (amount_of setup.blinds (small_blind_seat setup)))
+    put (codes "small_blind_amount") (whole (amount_of setup.blinds (seat_of_small_blind setup)))
     (put (codes "big_blind_amount") (whole (big_blind setup))
     (put (codes "ante_amount") (whole (greatest_ante setup))
     (put (codes "bet_limit") (limit_tree setup)
@@ -90,4 +90,4 @@ hand_sorted dialect place trace notes =
     members_sorted (moment_of notes) (whole (greatest_ante setup)) (limit_tree setup) (whole (big_blind setup)) (text_or_empty notes.currency)
     (whole (number_among (numbers_written setup notes) setup.stacks.seats)) (string (unwrap_or notes.hand (decimal place))) (string (game_word setup.code)) (string (codes "1"))
     (players setup.stacks notes (numbers_written setup notes)) (pots trace) (list (round_trees 1 (hand_rounds dialect trace))) (text_or_empty notes.venue)
-    (whole (amount_of setup.blinds (small_blind_seat setup))) (string (codes "1.4.6")) (text_or_empty notes.table) (whole (table_size setup notes))
+    (whole (amount_of setup.blinds (seat_of_small_blind setup))) (string (codes "1.4.6")) (text_or_empty notes.table) (whole (table_size setup notes))

@@ -3,7 +3,7 @@
 use Rattle.std.specs.Prelude.{ℕ, ◌-◌, ◌==◌, ◌&&◌, nat_lt, not, Bool, if◌then◌else◌, List, [], ◌∷◌, ◌++◌, Some}
 use Rattle.std.specs.List.{flat_map, list_any}
 use Rattle.card_set.specs.declared.card.Slot.{Slot}
-use Rattle.card_set.specs.Known.{is_unknown}
+use Rattle.card_set.specs.Known.{hides_card}
 use Rattle.card_set.specs.Row.{slots_of}
 use Rattle.chip_ledger.specs.LiveRow.{flag_of}
 use Rattle.chip_ledger.specs.SeatRow.{amount_of}
@@ -64,12 +64,12 @@ with_cards word seat cards = record { word = word; player = seat; detail = Cards
 -- ---- posts
 
 -- the seat of the small blind: the first after the button; with two seats, the button
-abbrev pub small_blind_seat : Setup → ℕ
-small_blind_seat setup = small_blind_of setup.stacks.seats
+abbrev pub seat_of_small_blind : Setup → ℕ
+seat_of_small_blind setup = small_blind_of setup.stacks.seats
 
 -- the seat of the big blind: the next one
-abbrev pub big_blind_seat : Setup → ℕ
-big_blind_seat setup = big_blind_of setup.stacks.seats
+abbrev pub seat_of_big_blind : Setup → ℕ
+seat_of_big_blind setup = big_blind_of setup.stacks.seats
 
 -- the ante of a seat, if it posts one
 abbrev pub ante_post : Setup → ℕ → List PlainAction
@@ -96,20 +96,20 @@ straddle_post setup seat =
 abbrev pub posts : Setup → List PlainAction
 posts setup =
     flat_map (ante_post setup) (all_seats setup)
-    ++ (blind_post setup words.PostSmallBlind (small_blind_seat setup)
-    ∷ blind_post setup words.PostBigBlind (big_blind_seat setup)
+    ++ (blind_post setup words.PostSmallBlind (seat_of_small_blind setup)
+    ∷ blind_post setup words.PostBigBlind (seat_of_big_blind setup)
     ∷ flat_map (straddle_post setup) (all_seats setup))
 
 -- ---- cards
 
 -- one of the cards is known
-abbrev pub has_known : List Slot → Bool
-has_known slots = list_any (λ slot. not (is_unknown slot)) slots
+abbrev pub has_known_card : List Slot → Bool
+has_known_card slots = list_any (λ slot. not (hides_card slot)) slots
 
 -- the cards that a seat was dealt, if one of them is known
 abbrev pub deal_written : ℕ → List Slot → List PlainAction
 deal_written seat cards =
-    if has_known cards then with_cards words.DealtCards seat cards ∷ [] else []
+    if has_known_card cards then with_cards words.DealtCards seat cards ∷ [] else []
 
 -- the deals of the first street, from p1 upward
 abbrev pub deals : Setup → List TracedPlace → List PlainAction

@@ -7,7 +7,7 @@ use Rattle.chip_ledger.specs.SeatRow.{amount_of}
 use Rattle.play_event.specs.declared.setup.Setup.{Setup}
 use Rattle.play_event.specs.Seats.{all_seats}
 use Rattle.play_event.specs.Streets.{limit_of}
-use Rattle.play_event.specs.ValidSetup.{is_fixed}
+use Rattle.play_event.specs.ValidSetup.{is_fixed_limit}
 use Rattle.hand_canon.specs.declared.notes.NoteName.TheVariants as names
 use Rattle.hand_canon.specs.declared.notes.Notes.{Notes}
 use Rattle.hand_canon.specs.declared.trace.Play.{Play}
@@ -16,7 +16,7 @@ use Rattle.hand_canon.specs.declared.writing.Keep.{Keep}
 use Rattle.hand_canon.specs.declared.writing.Keep.TheVariants as keeps
 use Rattle.hand_canon.specs.declared.writing.Unspelled.{Unspelled}
 use Rattle.hand_canon.specs.declared.writing.Unspelled.TheVariants as facts
-use Rattle.ohh_writing.specs.Actions.{big_blind_seat}
+use Rattle.ohh_writing.specs.Actions.{seat_of_big_blind}
 use Rattle.ohh_writing.specs.Games.{is_spelled_game}
 use Rattle.ohh_writing.specs.Moment.{moment_of}
 use Rattle.ohh_writing.specs.Seating.{numbers_spelled}
@@ -26,13 +26,13 @@ use Rattle.hand_canon.specs.WriteRefusals.{or_behind}
 
 -- the big blind, as it is named
 abbrev pub big_blind : Setup → ℕ
-big_blind setup = amount_of setup.blinds (big_blind_seat setup)
+big_blind setup = amount_of setup.blinds (seat_of_big_blind setup)
 
 -- in fixed limit the bets are the big blind and twice the big blind, and in the other limits the
 -- least bet is the big blind
 abbrev pub has_spelled_sizes : Setup → Bool
 has_spelled_sizes setup =
-    if is_fixed (limit_of setup.code)
+    if is_fixed_limit (limit_of setup.code)
     then (setup.small_bet == big_blind setup) && (setup.big_bet == 2 * big_blind setup)
     else setup.min_bet == big_blind setup
 

@@ -18,7 +18,7 @@ use Rattle.hand_canon.specs.declared.notes.Notes.{Notes}
 use Rattle.hand_canon.specs.declared.trace.Play.{Play}
 use Rattle.hand_canon.specs.declared.trace.Trace.{Trace}
 use Rattle.ohh_members.specs.declared.dialect.Dialect.{Dialect}
-use Rattle.ohh_writing.specs.Actions.{PlainAction, PlainDetail, Nothing, Chips, Cards, small_blind_seat}
+use Rattle.ohh_writing.specs.Actions.{PlainAction, PlainDetail, Nothing, Chips, Cards, seat_of_small_blind}
 use Rattle.ohh_writing.specs.Games.{bet_word, game_word}
 use Rattle.hand_canon.specs.declared.notes.Moment.{Moment}
 use Rattle.ohh_writing.specs.Moment.{moment_of, moment_text}
@@ -183,7 +183,7 @@ hand_members dialect place trace notes =
     (member (codes "rounds") (list (round_trees 1 (hand_rounds dialect trace)))
     (member (codes "site_name") (text_or_empty notes.venue)
     (member (codes "small_blind_amount")
-    (whole (amount_of trace.setup.blinds (small_blind_seat trace.setup)))
+    (whole (amount_of trace.setup.blinds (seat_of_small_blind trace.setup)))
     (member (codes "spec_version") (string (codes "1.4.6"))
     (date_member (moment_of notes)
     (member (codes "table_name") (text_or_empty notes.table)

@@ -66,7 +66,7 @@ fn is_owner(one: Option<Seat>, other: Option<Seat>) -> bool
 
 /// Whether one of the cards is known.
 pub fn has_known(cards: &[Slot]) -> bool
-    ensures { result ≡ actions.has_known cards.now }
+    ensures { result ≡ actions.has_known_card cards.now }
 {
     for card in cards {
         if !card.is_unknown() {

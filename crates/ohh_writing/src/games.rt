@@ -5,7 +5,7 @@ ghost use Rattle.ohh_writing.specs.Games as games;
 use play_event::Code;
 
 /// Whether the format can write the game.
-pub fn is_spelled_game(code: Code) -> bool
+pub fn can_write_game(code: Code) -> bool
     ensures { result ≡ games.is_spelled_game code }
 {
     match code {
@@ -16,7 +16,7 @@ pub fn is_spelled_game(code: Code) -> bool
 }
 
 /// The word for the game.
-pub fn game_word(code: Code) -> &'static str
+pub fn game_type(code: Code) -> &'static str
     ensures { result.now ≡ games.game_word code }
 {
     match code {
@@ -28,7 +28,7 @@ pub fn game_word(code: Code) -> &'static str
 }
 
 /// The word for the limit of the game.
-pub fn bet_word(code: Code) -> &'static str
+pub fn bet_type(code: Code) -> &'static str
     ensures { result.now ≡ games.bet_word code }
 {
     match code {

@@ -14,18 +14,19 @@ ghost use Rattle.ohh_writing.specs.Moment as moment;
 ghost use Rattle.ohh_writing.specs.Spelled as spelled;
 ghost use Rattle.ohh_writing.specs.Tree.{hand_members, hand_tree, limit_tree, list, numbers_written, players, pots, round_trees, table_size, text_or_empty, whole, with_date};
 
-use crate::games::{bet_word, game_word};
+use crate::games::{bet_type, game_type};
 use crate::members::{put_number, put_text, put_value, text_value};
-use crate::moment::{moment_of, moment_text};
+use crate::moment::{find_moment, write_moment};
 use crate::players::player_values;
-use crate::posts::{amount_at, small_blind_seat};
+use crate::posts::small_blind_seat;
 use crate::pots::pot_values;
-use crate::rounds::hand_rounds;
-use crate::seating::{number_among, numbers_spelled};
-use crate::setup::{big_blind, greatest_ante};
+use crate::rounds::make_rounds;
+use crate::seating::{find_seat_number, numbers_to_write};
+use crate::setup::{find_big_blind, find_greatest_ante};
 use crate::tidy_trace::TidyTrace;
 use crate::trees::round_values;
 use card_set::{Memory, displayed};
+use chip_ledger::Seat;
 use first_fault::Text;
 use hand_canon::{Notes, Play, Trace};
 use ohh_members::Dialect;
@@ -70,18 +71,18 @@ fn make_members(alloc: Global, dialect: Dialect, index: usize, play: &Play) -> R
 fn put_setup(alloc: Global, ohh: &mut Map<String, Value>, setup: &Setup) -> Result<(), Memory>
     ensures { OnOk result (members_view ohh.new.entries
         ≡ put (codes "small_blind_amount")
-        (whole (amount_of setup.now.blinds (actions.small_blind_seat setup.now)))
+        (whole (amount_of setup.now.blinds (actions.seat_of_small_blind setup.now)))
         (put (codes "big_blind_amount") (whole (spelled.big_blind setup.now))
         (put (codes "ante_amount") (whole (spelled.greatest_ante setup.now))
         (put (codes "bet_limit") (limit_tree setup.now)
         (put (codes "game_type") (string (games.game_word setup.now.code))
         (members_view ohh.old.entries)))))) }
 {
-    let small_blind = amount_at(&setup.blinds, small_blind_seat(setup).number);
-    put_text(alloc, ohh, "game_type", game_word(setup.code))?;
+    let small_blind = setup.blinds.get(small_blind_seat(setup));
+    put_text(alloc, ohh, "game_type", game_type(setup.code))?;
     put_value(alloc, ohh, "bet_limit", limit_value(alloc, setup)?)?;
-    put_number(alloc, ohh, "ante_amount", greatest_ante(setup))?;
-    put_number(alloc, ohh, "big_blind_amount", big_blind(setup))?;
+    put_number(alloc, ohh, "ante_amount", find_greatest_ante(setup))?;
+    put_number(alloc, ohh, "big_blind_amount", find_big_blind(setup))?;
     put_number(alloc, ohh, "small_blind_amount", small_blind)?;
     Ok(())
 }
@@ -91,7 +92,7 @@ fn limit_value(alloc: Global, setup: &Setup) -> Result<Value, Memory>
     ensures { IfOk result (λ value. view value ≡ limit_tree setup.now) }
 {
     let mut members = Map::new(alloc);
-    put_text(alloc, &mut members, "bet_type", bet_word(setup.code))?;
+    put_text(alloc, &mut members, "bet_type", bet_type(setup.code))?;
     Ok(Value::Object(members))
 }
 
@@ -110,17 +111,20 @@ fn put_seating(
         (numbers_written setup.now notes.now) setup.now.stacks.seats))
         (members_view ohh.old.entries)))) }
 {
-    let count = setup.stacks.seats;
-    let numbers = numbers_spelled(count, notes.seats);
-    let size = notes.seat_count.unwrap_or(count);
+    let players = setup.stacks.players();
+    let last = Seat {
+        number: players.number,
+    };
+    let numbers = numbers_to_write(players, notes.seats);
+    let size = notes.seat_count.unwrap_or(players.number);
     put_number(
         alloc,
         ohh,
         "dealer_seat",
-        number_among(numbers, count) as u64,
+        find_seat_number(numbers, last) as u64,
     )?;
-    let players = player_values(alloc, &setup.stacks, notes, numbers)?;
-    put_value(alloc, ohh, "players", players)?;
+    let values = player_values(alloc, &setup.stacks, notes, numbers)?;
+    put_value(alloc, ohh, "players", values)?;
     put_number(alloc, ohh, "table_size", size as u64)?;
     Ok(())
 }
@@ -185,7 +189,7 @@ fn put_play(
         (put (codes "pots") (pots trace.now) (members_view ohh.old.entries))) }
 {
     put_value(alloc, ohh, "pots", pot_values(alloc, trace)?)?;
-    let rounds = hand_rounds(alloc, dialect, &TidyTrace { trace })?;
+    let rounds = make_rounds(alloc, dialect, &TidyTrace { trace })?;
     let rounds = Value::Array(round_values(alloc, rounds.as_slice())?);
     put_value(alloc, ohh, "rounds", rounds)?;
     Ok(())
@@ -207,8 +211,8 @@ fn put_date(alloc: Global, ohh: &mut Map<String, Value>, notes: &Notes) -> Resul
     ensures { OnOk result (members_view ohh.new.entries
         ≡ with_date (moment.moment_of notes.now) (members_view ohh.old.entries)) }
 {
-    if let Some(moment) = moment_of(notes) {
-        let text = moment_text(alloc, moment)?;
+    if let Some(moment) = find_moment(notes) {
+        let text = write_moment(alloc, moment)?;
         put_value(alloc, ohh, "start_date_utc", Value::String(text))?;
     }
     Ok(())

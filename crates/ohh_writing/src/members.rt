@@ -48,10 +48,7 @@ pub fn put_value(
     ensures { OnOk result (members_view members.new.entries
         ≡ json.put name.now (view value) (members_view members.old.entries)) }
 {
-    match put(members, alloc, name, value) {
-        Ok(()) => Ok(()),
-        Err(_) => Err(refused_to_tree()),
-    }
+    put(members, alloc, name, value).map_err(|_| refused_to_tree())
 }
 
 /// A text as a value.

@@ -8,7 +8,7 @@ use hand_canon::{CivilDate, Clock, Moment, Notes};
 use std::alloc::Global;
 
 /// The moment of the notes, if it is complete and its zone is UTC.
-pub fn moment_of(notes: &Notes) -> Option<Moment>
+pub fn find_moment(notes: &Notes) -> Option<Moment>
     ensures { result ≡ moments.moment_of notes.now }
 {
     let year = notes.year?;
@@ -16,13 +16,13 @@ pub fn moment_of(notes: &Notes) -> Option<Moment>
     let day = notes.day?;
     let time = notes.time?;
     match &notes.zone {
-        Some(zone) => moment_in(year, month, day, time, zone.as_str()),
+        Some(zone) => make_moment(year, month, day, time, zone.as_str()),
         None => None,
     }
 }
 
 // The moment, if the zone is UTC.
-fn moment_in(year: u16, month: u8, day: u8, time: Clock, zone: &str) -> Option<Moment>
+fn make_moment(year: u16, month: u8, day: u8, time: Clock, zone: &str) -> Option<Moment>
     ensures { result ≡ moments.moment_in year month day time zone.now }
 {
     if zone == "UTC" {
@@ -34,7 +34,7 @@ fn moment_in(year: u16, month: u8, day: u8, time: Clock, zone: &str) -> Option<M
 }
 
 /// A moment as the format writes it.
-pub fn moment_text(alloc: Global, moment: Moment) -> Result<String, Memory>
+pub fn write_moment(alloc: Global, moment: Moment) -> Result<String, Memory>
     ensures { IfOk result (λ text. string_bytes text ≡ moments.moment_text moment) }
 {
     let mut text = String::new(alloc);

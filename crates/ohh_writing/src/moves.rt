@@ -111,12 +111,12 @@ fn raise_action(dialect: Dialect, played: Move, left: u64) -> Action
     if played.price == 0 {
         return chips_action(Word::Bet, played.seat.number, added(played), left);
     }
-    let amount = raise_amount(dialect, played);
+    let amount = find_raise_amount(dialect, played);
     chips_action(Word::Raise, played.seat.number, amount, left)
 }
 
 // The amount of a raise in a dialect.
-fn raise_amount(dialect: Dialect, played: Move) -> u64
+fn find_raise_amount(dialect: Dialect, played: Move) -> u64
     ensures { result ≡ ohh.raise_amount dialect (move_said played) }
 {
     match dialect {

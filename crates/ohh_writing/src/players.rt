@@ -6,8 +6,7 @@ ghost use Rattle.hand_canon.specs.AllowedNotes.{name_written};
 ghost use Rattle.ohh_writing.specs.Tree.{player_tree, players};
 
 use crate::members::{put_number, put_value};
-use crate::posts::amount_at;
-use crate::seating::number_among;
+use crate::seating::find_seat_number;
 use card_set::{Memory, TryPush, string_from, try_format};
 use chip_ledger::{Seat, SeatRow};
 use hand_canon::Notes;
@@ -43,8 +42,8 @@ fn player_value(
     ensures { IfOk result (λ value.
         view value ≡ player_tree stacks.now notes.now numbers seat.number) }
 {
-    let number = number_among(numbers, seat.number);
-    let stack = amount_at(stacks, seat.number);
+    let number = find_seat_number(numbers, seat);
+    let stack = stacks.get(seat);
     let mut members = Map::new(alloc);
     put_number(alloc, &mut members, "id", seat.number as u64)?;
     put_name(alloc, &mut members, notes, seat)?;

@@ -1,5 +1,5 @@
 //! The posts of a hand: antes, blinds and straddles.
-ghost use Rattle.std.specs.Prelude.{◌≡◌, ◌≤◌, ◌-◌, ◌++◌, map, OnOk};
+ghost use Rattle.std.specs.Prelude.{◌≡◌, ◌-◌, ◌++◌, map, OnOk};
 ghost use Rattle.std.specs.List.{flat_map};
 ghost use Rattle.chip_ledger.specs.SeatRow.{amount_of};
 ghost use Rattle.play_event.specs.Chips.{blind_posted, posted};
@@ -9,7 +9,7 @@ ghost use Rattle.ohh_writing.specs.Actions as ohh;
 
 use crate::action::{Action, Detail};
 use card_set::{Memory, TryPush};
-use chip_ledger::{Seat, SeatRow};
+use chip_ledger::Seat;
 use ohh_members::words::Word;
 use play_event::Setup;
 
@@ -41,18 +41,18 @@ fn push_ante(actions: &mut Vec<Action>, setup: &Setup, seat: Seat) -> Result<(),
     ensures { OnOk result (map action_said actions.new.items
         ≡ map action_said actions.old.items ++ ante_post setup.now seat.number) }
 {
-    let ante = amount_at(&setup.antes, seat.number);
+    let ante = setup.antes.get(seat);
     if ante == 0 {
         return Ok(());
     }
-    let left = amount_at(&setup.stacks, seat.number).saturating_sub(ante);
+    let left = setup.stacks.get(seat).saturating_sub(ante);
     actions.try_push(chips_action(Word::PostAnte, seat.number, ante, left))?;
     Ok(())
 }
 
 /// The seat of the small blind.
 pub fn small_blind_seat(setup: &Setup) -> Seat
-    ensures { result.number ≡ ohh.small_blind_seat setup.now }
+    ensures { result.number ≡ ohh.seat_of_small_blind setup.now }
 {
     let number = if setup.stacks.seats == 2 { 2 } else { 1 };
     Seat { number }
@@ -60,7 +60,7 @@ pub fn small_blind_seat(setup: &Setup) -> Seat
 
 /// The seat of the big blind.
 pub fn big_blind_seat(setup: &Setup) -> Seat
-    ensures { result.number ≡ ohh.big_blind_seat setup.now }
+    ensures { result.number ≡ ohh.seat_of_big_blind setup.now }
 {
     let number = if setup.stacks.seats == 2 { 1 } else { 2 };
     Seat { number }
@@ -83,7 +83,7 @@ fn push_straddle(actions: &mut Vec<Action>, setup: &Setup, seat: Seat) -> Result
     ensures { OnOk result (map action_said actions.new.items
         ≡ map action_said actions.old.items ++ straddle_post setup.now seat.number) }
 {
-    if seat.number <= 2 || amount_at(&setup.blinds, seat.number) == 0 {
+    if seat.number <= 2 || setup.blinds.get(seat) == 0 {
         return Ok(());
     }
     actions.try_push(blind_action(setup, Word::Straddle, seat))?;
@@ -115,10 +115,7 @@ pub fn left_after_posts(setup: &Setup, seat: Seat) -> u64
     ensures { result ≡ amount_of setup.now.stacks seat.number
         - posted setup.now seat.number }
 {
-    let left = amount_at(&setup.stacks, seat.number).saturating_sub(amount_at(
-        &setup.antes,
-        seat.number,
-    ));
+    let left = setup.stacks.get(seat).saturating_sub(setup.antes.get(seat));
     left.saturating_sub(posted_blind(setup, seat))
 }
 
@@ -126,18 +123,6 @@ pub fn left_after_posts(setup: &Setup, seat: Seat) -> u64
 fn posted_blind(setup: &Setup, seat: Seat) -> u64
     ensures { result ≡ blind_posted setup.now seat.number }
 {
-    let left = amount_at(&setup.stacks, seat.number).saturating_sub(amount_at(
-        &setup.antes,
-        seat.number,
-    ));
-    amount_at(&setup.blinds, seat.number).min(left)
-}
-
-/// The amount of a seat in a row.
-pub fn amount_at(row: &SeatRow, seat: u8) -> u64
-    requires first { 1 ≤ seat }
-    requires last { seat ≤ 10 }
-    ensures { result ≡ amount_of row.now seat }
-{
-    row.amounts[seat as usize - 1]
+    let left = setup.stacks.get(seat).saturating_sub(setup.antes.get(seat));
+    setup.blinds.get(seat).min(left)
 }

@@ -1,13 +1,12 @@
 //! The pots of a hand, with their rakes and with who wins them.
-ghost use Rattle.std.specs.Prelude.{◌≡◌, ◌≤◌, ◌<◌, ◌++◌, ◌+◌, codes, map, IfOk, OnOk};
+ghost use Rattle.std.specs.Prelude.{◌≡◌, ◌<◌, ◌++◌, ◌+◌, codes, map, IfOk, OnOk};
 ghost use Rattle.serde_json.specs.Data.{put};
 ghost use Rattle.serde_json.specs.View.{view, members_view};
 ghost use Rattle.ohh_writing.specs.Tree.{pot_tree, pots, win_object, win_tree, wins_of};
 
 use crate::members::{put_number, put_value};
-use crate::posts::amount_at;
 use card_set::{Memory, TryPush};
-use chip_ledger::{Pot, Seat, SeatRow};
+use chip_ledger::{PlayerCount, Pot, Seat, SeatRow};
 use hand_canon::Trace;
 use serde_json::{Map, Value};
 use std::alloc::Global;
@@ -33,39 +32,37 @@ fn pot_value(alloc: Global, trace: &Trace, place: u8, pot: &Pot) -> Result<Value
     let mut members = Map::new(alloc);
     put_number(alloc, &mut members, "amount", pot.chips)?;
     put_number(alloc, &mut members, "number", place as u64)?;
-    put_wins(alloc, &mut members, share, trace.setup.stacks.seats)?;
+    put_wins(alloc, &mut members, share, trace.setup.stacks.players())?;
     put_number(alloc, &mut members, "rake", rake)?;
     Ok(Value::Object(members))
 }
 
-// Puts what the seats win of a pot under its name.
+// Puts what the players win of a pot under its name.
 fn put_wins(
     alloc: Global,
     members: &mut Map<String, Value>,
     share: &SeatRow,
-    seats: u8,
+    players: PlayerCount,
 ) -> Result<(), Memory>
-    requires { seats ≤ 10 }
     ensures { OnOk result (members_view members.new.entries
-        ≡ put (codes "player_wins") (wins_of share.now seats)
+        ≡ put (codes "player_wins") (wins_of share.now players.number)
         (members_view members.old.entries)) }
 {
     put_value(
         alloc,
         members,
         "player_wins",
-        win_values(alloc, share, seats)?,
+        win_values(alloc, share, players)?,
     )?;
     Ok(())
 }
 
-// The trees of what the first `seats` seats win of a pot.
-fn win_values(alloc: Global, share: &SeatRow, seats: u8) -> Result<Value, Memory>
-    requires { seats ≤ 10 }
-    ensures { IfOk result (λ value. view value ≡ wins_of share.now seats) }
+// The trees of what the players win of a pot.
+fn win_values(alloc: Global, share: &SeatRow, players: PlayerCount) -> Result<Value, Memory>
+    ensures { IfOk result (λ value. view value ≡ wins_of share.now players.number) }
 {
     let mut wins = Vec::new(alloc);
-    for index in 0..seats {
+    for index in 0..players.number {
         push_win(alloc, &mut wins, share, Seat { number: index + 1 })?;
     }
     Ok(Value::Array(wins))
@@ -76,7 +73,7 @@ fn push_win(alloc: Global, wins: &mut Vec<Value>, share: &SeatRow, seat: Seat) -
     ensures { OnOk result (map view wins.new.items
         ≡ map view wins.old.items ++ win_tree share.now seat.number) }
 {
-    let amount = amount_at(share, seat.number);
+    let amount = share.get(seat);
     if amount == 0 {
         return Ok(());
     }

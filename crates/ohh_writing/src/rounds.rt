@@ -19,7 +19,7 @@ use std::alloc::Global;
 
 /// The rounds of a hand.
 #[tactic(auto, unfolding(crate::specs::Rounds::hand_rounds))]
-pub fn hand_rounds(alloc: Global, dialect: Dialect, tidy: &TidyTrace) -> Result<Vec<Round>, Memory>
+pub fn make_rounds(alloc: Global, dialect: Dialect, tidy: &TidyTrace) -> Result<Vec<Round>, Memory>
     ensures { IfOk result (λ rounds. map round_said rounds.items
         ≡ ohh.hand_rounds dialect tidy.now.trace.now) }
 {
@@ -72,7 +72,7 @@ fn push_board_round(
     if cards.as_slice().is_empty() {
         return Ok(());
     }
-    let actions = moves_on(alloc, dialect, tidy.trace, number)?;
+    let actions = make_street_moves(alloc, dialect, tidy.trace, number)?;
     rounds.try_push(Round {
         street,
         cards,
@@ -82,7 +82,7 @@ fn push_board_round(
 }
 
 // The moves of a street.
-fn moves_on(
+fn make_street_moves(
     alloc: Global,
     dialect: Dialect,
     trace: &Trace,

@@ -3,15 +3,15 @@ ghost use Rattle.std.specs.Prelude.{◌≡◌, ◌==◌, ◌≤◌, length};
 ghost use Rattle.std.specs.List.{list_any};
 ghost use Rattle.ohh_writing.specs.Seating as seating;
 
-/// The numbers of the first `count` seats, if they are noted and go round.
-pub fn numbers_spelled(count: u8, said: Option<[u8; 10]>) -> Option<[u8; 10]>
-    requires least { 1 ≤ count }
-    requires greatest { count ≤ 10 }
-    ensures { result ≡ seating.numbers_spelled count said }
+use chip_ledger::{PlayerCount, Seat};
+
+/// The numbers of the players' seats, if they are noted and go round.
+pub fn numbers_to_write(players: PlayerCount, said: Option<[u8; 10]>) -> Option<[u8; 10]>
+    ensures { result ≡ seating.numbers_spelled players.number said }
 {
     match said {
         Some(numbers) => {
-            if is_circular(&numbers.as_slice()[..count as usize]) {
+            if go_round_once(&numbers.as_slice()[..players.number as usize]) {
                 Some(numbers)
             } else {
                 None
@@ -22,18 +22,18 @@ pub fn numbers_spelled(count: u8, said: Option<[u8; 10]>) -> Option<[u8; 10]>
 }
 
 // Whether the numbers differ and go round once: they fall at one step only.
-fn is_circular(numbers: &[u8]) -> bool
+fn go_round_once(numbers: &[u8]) -> bool
     requires { 1 ≤ length numbers.now }
     ensures { result ≡ seating.is_circular numbers.now }
 {
-    if !has_no_repeat(numbers) {
+    if !are_distinct(numbers) {
         return false;
     }
-    falls(numbers[0], numbers) == 1
+    count_falls(numbers[0], numbers) == 1
 }
 
 // Whether no number is repeated.
-fn has_no_repeat(numbers: &[u8]) -> bool
+fn are_distinct(numbers: &[u8]) -> bool
     ensures { result ≡ seating.has_no_repeat numbers.now }
 {
     match numbers {
@@ -42,7 +42,7 @@ fn has_no_repeat(numbers: &[u8]) -> bool
             if has_number(rest, *number) {
                 return false;
             }
-            has_no_repeat(rest)
+            are_distinct(rest)
         }
     }
 }
@@ -60,26 +60,27 @@ fn has_number(numbers: &[u8], number: u8) -> bool
 }
 
 // How many steps fall, from each number to the next, and from the last one to `back`.
-fn falls(back: u8, numbers: &[u8]) -> usize
-    ensures falls { result ≡ seating.falls back numbers.now }
+fn count_falls(back: u8, numbers: &[u8]) -> usize
+    ensures said { result ≡ seating.falls back numbers.now }
     ensures few { result ≤ length numbers.now }
 {
     match numbers {
         [] => 0,
-        [number, rest @ ..] => fall(*number, first_or(back, rest)) + falls(back, rest),
+        [number, rest @ ..] => one_if_falling(*number, first_or_back(back, rest))
+            + count_falls(back, rest),
     }
 }
 
 // 1 if a step falls, else 0.
-fn fall(number: u8, next: u8) -> usize
-    ensures fall { result ≡ seating.fall number next }
+fn one_if_falling(number: u8, next: u8) -> usize
+    ensures said { result ≡ seating.fall number next }
     ensures few { result ≤ 1 }
 {
     usize::from(next < number)
 }
 
 // The first of some numbers, or `back` after the last.
-fn first_or(back: u8, numbers: &[u8]) -> u8
+fn first_or_back(back: u8, numbers: &[u8]) -> u8
     ensures { result ≡ seating.first_or back numbers.now }
 {
     match numbers {
@@ -89,13 +90,11 @@ fn first_or(back: u8, numbers: &[u8]) -> u8
 }
 
 /// The number of a seat among these, or by default its place.
-pub fn number_among(numbers: Option<[u8; 10]>, seat: u8) -> u8
-    requires first { 1 ≤ seat }
-    requires last { seat ≤ 10 }
-    ensures { result ≡ seating.number_among numbers seat }
+pub fn find_seat_number(numbers: Option<[u8; 10]>, seat: Seat) -> u8
+    ensures { result ≡ seating.number_among numbers seat.number }
 {
     match numbers {
-        Some(numbers) => numbers[seat as usize - 1],
-        None => seat,
+        Some(numbers) => numbers[seat.number as usize - 1],
+        None => seat.number,
     }
 }

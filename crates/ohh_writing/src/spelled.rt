@@ -4,10 +4,10 @@ ghost use Rattle.ohh_writing.specs.Spelled.{first_unspelled, kept_facts, note_fa
 ghost use Rattle.ohh_writing.specs.Spelled as spelled;
 ghost use Rattle.hand_canon.specs.WriteRefusals.{first_refusal};
 
-use crate::games::is_spelled_game;
-use crate::moment::moment_of;
-use crate::seating::numbers_spelled;
-use crate::setup::{has_spelled_antes, has_spelled_blinds, has_spelled_sizes};
+use crate::games::can_write_game;
+use crate::moment::find_moment;
+use crate::seating::numbers_to_write;
+use crate::setup::{can_write_antes, can_write_blinds, can_write_sizes};
 use chip_ledger::SeatRow;
 use hand_canon::{Keep, NoteName, Notes, Play, SoundPlays, Trace, Unspelled, WriteRefusal};
 
@@ -43,16 +43,16 @@ pub fn spells(play: &Play, keep: Keep) -> Option<Unspelled>
 fn first_of_trace(trace: &Trace) -> Option<Unspelled>
     ensures { result ≡ first_unspelled (trace_facts trace.now) }
 {
-    if !is_spelled_game(trace.setup.code) {
+    if !can_write_game(trace.setup.code) {
         return Some(Unspelled::Variant);
     }
-    if !has_spelled_sizes(&trace.setup) {
+    if !can_write_sizes(&trace.setup) {
         return Some(Unspelled::BetSizes);
     }
-    if !has_spelled_antes(&trace.setup) {
+    if !can_write_antes(&trace.setup) {
         return Some(Unspelled::Antes);
     }
-    if !has_spelled_blinds(&trace.setup) {
+    if !can_write_blinds(&trace.setup) {
         return Some(Unspelled::Blinds);
     }
     if trace.moves.has_closed_raise() {
@@ -75,10 +75,10 @@ fn first_of_kept(play: &Play, keep: Keep) -> Option<Unspelled>
 fn first_of_notes(stacks: &SeatRow, notes: &Notes) -> Option<Unspelled>
     ensures { result ≡ first_unspelled (note_facts stacks.now.seats notes.now) }
 {
-    if !has_spelled_numbers(stacks, notes) {
+    if !can_write_numbers(stacks, notes) {
         return Some(Unspelled::Note(NoteName::Seats));
     }
-    if moment_of(notes).is_some() {
+    if find_moment(notes).is_some() {
         return None;
     }
     if notes.zone.is_some() {
@@ -100,11 +100,11 @@ fn first_of_notes(stacks: &SeatRow, notes: &Notes) -> Option<Unspelled>
 }
 
 // Whether the numbers of the seats are not noted, or go round the table.
-fn has_spelled_numbers(stacks: &SeatRow, notes: &Notes) -> bool
+fn can_write_numbers(stacks: &SeatRow, notes: &Notes) -> bool
     ensures { result ≡ spelled.has_spelled_numbers stacks.now.seats notes.now }
 {
     if notes.seats.is_none() {
         return true;
     }
-    numbers_spelled(stacks.seats, notes.seats).is_some()
+    numbers_to_write(stacks.players(), notes.seats).is_some()
 }

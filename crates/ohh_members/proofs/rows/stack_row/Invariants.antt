@@ -11,5 +11,5 @@ invariant-loop-index l = record {
   least : (k : ℕ) → k < l.index → 1 ≤ slice_index l.amounts k;
   most : (k : ℕ) → slice_index l.amounts k ≤ MOST_CHIPS;
   zeros : (k : ℕ) → l.index ≤ k → slice_index l.amounts k ≡ 0;
-  read : take l.index l.amounts ≡ stacks_of (map plain_player (take l.index l.players));
+  read : take l.index l.amounts ≡ stacks_of (map plain_player (take l.index l.seated.players.now));
 }

@@ -9,5 +9,5 @@ use Rattle.ohh_reading.proofs.pots.read_wins.Given as goal
 abbrev pub invariant-loop-place : goal.invariant-loop-place
 invariant-loop-place l = record {
   seats : l.after.sums.seats ≡ l.fn.won.sums.seats;
-  read : add_left view (win_added l.ids l.index) (map plain_win l.after.list.items) l.place l.values ≡ wins_said l.ids l.index (map plain_win l.fn.won.list.items) (view l.pot);
+  read : add_left view (win_added l.players.ids.now l.index) (map plain_win l.after.list.items) l.place l.values ≡ wins_said l.players.ids.now l.index (map plain_win l.fn.won.list.items) (view l.pot);
 }

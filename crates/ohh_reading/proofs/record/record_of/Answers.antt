@@ -6,7 +6,7 @@ pub returns-clause-history : goal.returns-clause-history
 returns-clause-history c =
     let front = c.requires.front in
     let stakes = c.requires.stakes in
-    let sizes = c.sizes_of-sizes.ensures in
+    let sizes = c.make_bet_sizes-sizes.ensures in
     record {
       sound = record {
         valid = record {

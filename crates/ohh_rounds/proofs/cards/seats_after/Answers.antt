@@ -55,7 +55,7 @@ returns-in-Some c =
     let steps = map plain_step c.args.steps.now in
     let step = plain_step c.args.step in
     let effect = plain_effect c.args.step.effect in
-    let folds : folder (kind_said c.in-Happened.kind) ≡ Some at.number = sym c.folder.ensures ∙ ap (option_map (λ other. other.number)) c.in-Some.is in
+    let folds : folder (kind_said c.in-Happened.kind) ≡ Some at.number = sym c.find_folding_seat.ensures ∙ ap (option_map (λ other. other.number)) c.in-Some.is in
     let fold = subst (IsFoldBy at.number) (sym (ap plain_effect c.in-Happened.is)) folds in
     let old = c.index-seats-index-in-Some.result in
     let seen = c.requires.seen.each at.number at.first at.last old (at_index seats (at.number - 1) old (omega (arith, c.requires.seen.ten, at.first, at.last)) c.index-seats-index-in-Some.is) in
@@ -69,5 +69,5 @@ returns-in-Some c =
 
 pub returns-in-None : goal.returns-in-None
 returns-in-None c =
-    let none : folder (kind_said c.in-Happened.kind) ≡ None = sym c.folder.ensures ∙ ap (option_map (λ other. other.number)) c.in-None.is in
+    let none : folder (kind_said c.in-Happened.kind) ≡ None = sym c.find_folding_seat.ensures ∙ ap (option_map (λ other. other.number)) c.in-None.is in
     record { ten = c.requires.seen.ten; each = λ seat from to kept is. untold seat (map plain_step c.args.steps.now) (plain_step c.args.step) kept (ap (λ effect. is_fold_of seat (plain_effect effect)) c.in-Happened.is ∙ ap (is_seat seat) none) (ap (λ effect. dealt_in seat (plain_effect effect)) c.in-Happened.is) (ap (λ effect. is_deal_to seat (plain_effect effect)) c.in-Happened.is) (c.requires.seen.each seat from to kept is) }

@@ -12,7 +12,7 @@ loop-index-preserved c =
     let l = c.loop-index in
     let seen = c.args.seen.now in
     let deal = hole_deal seen.setting.hole_cards (map plain_step seen.steps.items) in
-    ap (map numbered) c.in_ok-push.ensures.pushed ∙ map_push numbered l.script c.hole_deal.result
-    ∙ ap (λ front. front ++ numbered c.hole_deal.result ∷ []) l.invariant
-    ∙ ap (λ event. map deal (seats_of l.index) ++ event ∷ []) c.hole_deal.ensures
+    ap (map numbered) c.in_ok-push.ensures.pushed ∙ map_push numbered l.script c.make_hole_deal.result
+    ∙ ap (λ front. front ++ numbered c.make_hole_deal.result ∷ []) l.invariant
+    ∙ ap (λ event. map deal (seats_of l.index) ++ event ∷ []) c.make_hole_deal.ensures
     ∙ sym (ap (map deal) (seats_of_more l.index) ∙ map-append deal (seats_of l.index) ((l.index + 1) ∷ []))

@@ -9,4 +9,4 @@ pub loop-index-preserved : goal.loop-index-preserved
 loop-index-preserved c =
     let setup = c.args.setup.now in
     all_goes_on (is_covered_straddle setup) c.loop-index.index setup.stacks.seats (list_all (is_covered_straddle setup) (all_seats setup)) (omega (arith, c.loop-index-test.true))
-    (grind (arith, c.is_covered_straddle.ensures, c.if-not-is_covered_straddle.false)) c.loop-index.invariant
+    (grind (arith, c.covers_straddle.ensures, c.if-not-covers_straddle.false)) c.loop-index.invariant

@@ -9,4 +9,4 @@ pub loop-index-preserved : goal.loop-index-preserved
 loop-index-preserved c =
     let setup = c.args.setup.now in
     any_goes_on (has_no_ante setup) c.loop-index.index setup.stacks.seats (list_any (has_no_ante setup) (all_seats setup)) (omega (arith, c.loop-index-test.true))
-    (grind (arith, c.has_no_ante.ensures, c.if-has_no_ante.false)) c.loop-index.invariant
+    (grind (arith, c.posts_no_ante.ensures, c.if-posts_no_ante.false)) c.loop-index.invariant

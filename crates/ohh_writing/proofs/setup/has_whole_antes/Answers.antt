@@ -9,4 +9,4 @@ pub loop-index-preserved : goal.loop-index-preserved
 loop-index-preserved c =
     let setup = c.args.setup.now in
     all_goes_on (is_whole_ante setup) c.loop-index.index setup.stacks.seats (list_all (is_whole_ante setup) (all_seats setup)) (omega (arith, c.loop-index-test.true))
-    (grind (arith, c.is_whole_ante.ensures, c.if-not-is_whole_ante.false)) c.loop-index.invariant
+    (grind (arith, c.posts_whole_ante.ensures, c.if-not-posts_whole_ante.false)) c.loop-index.invariant

@@ -29,10 +29,10 @@ returns-clause-said c =
     let count = seats_in table.stacks.amounts table.stacks.seats table.stacks.full table.stacks.greatest in
     same_stakes
     (amounts_in c.antes_of-antes.result) (map (held_ante (plain_named_blinds table) posts) (seats_of (seat_count (plain_named_blinds table))))
-    c.are_dead.result (list_any (λ seat. nat_lt 0 (held_ante (plain_named_blinds table) posts seat)) (seats_of (seat_count (plain_named_blinds table))) && not (has_all_antes (plain_named_blinds table) posts))
+    c.has_dead_antes.result (list_any (λ seat. nat_lt 0 (held_ante (plain_named_blinds table) posts seat)) (seats_of (seat_count (plain_named_blinds table))) && not (has_all_antes (plain_named_blinds table) posts))
     (amounts_in c.blinds_of.result) (map (named_blind (plain_named_blinds table) posts) (seats_of (seat_count (plain_named_blinds table))))
     (row_listed (held_ante (plain_named_blinds table) posts) c.antes_of-antes.result (seat_count (plain_named_blinds table)) (antes.seats ∙ sym count) (λ seat from to. antes.antes posts first seat from (omega (arith, to, count))))
-    (c.are_dead.ensures posts first
+    (c.has_dead_antes.ensures posts first
     ∙ ap (λ n. list_any (λ seat. nat_lt 0 (amount_of c.antes_of-antes.result seat)) (seats_of n) && not (has_all_antes (plain_named_blinds table) posts)) (antes.seats ∙ sym count)
     ∙ ap (λ some. some && not (has_all_antes (plain_named_blinds table) posts)) (any_seats (λ seat. nat_lt 0 (amount_of c.antes_of-antes.result seat)) (λ seat. nat_lt 0 (held_ante (plain_named_blinds table) posts seat)) (seat_count (plain_named_blinds table)) (λ seat from to. ap (λ n. nat_lt 0 n) (antes.antes posts first seat from (omega (arith, to, count))))))
     (row_listed (named_blind (plain_named_blinds table) posts) c.blinds_of.result (seat_count (plain_named_blinds table)) (blinds.seats ∙ sym count) (λ seat from to. blinds.blinds posts first seat from (omega (arith, to, count))))
@@ -59,7 +59,7 @@ returns-clause-fit c =
       blinds = blinds.most;
       dead_antes = λ is.
           ap (λ n. list_any (λ seat. nat_lt 0 (amount_of c.antes_of-antes.result seat)) (seats_of n)) (sym antes.seats)
-          ∙ (and_parts (list_any (λ seat. nat_lt 0 (amount_of c.antes_of-antes.result seat)) (seats_of c.antes_of-antes.result.seats)) (not (has_all_antes (plain_named_blinds table) posts)) (sym (c.are_dead.ensures posts first) ∙ is)).0;
+          ∙ (and_parts (list_any (λ seat. nat_lt 0 (amount_of c.antes_of-antes.result seat)) (seats_of c.antes_of-antes.result.seats)) (not (has_all_antes (plain_named_blinds table) posts)) (sym (c.has_dead_antes.ensures posts first) ∙ is)).0;
       heads_up = λ two.
           omega (arith, blinds.blinds posts first 2 (omega arith) (omega (arith, two)), blinds.blinds posts first 1 (omega arith) (omega (arith, two)), small_of_two (plain_named_blinds table) posts (count ∙ two), big_of_two (plain_named_blinds table) posts (count ∙ two), table.smaller);
     }

@@ -1,6 +1,6 @@
 use Rattle.std.proofs.Common.{◌≡◌, drop, map}
 use Rattle.ohh_members.specs.Players.{has_seat, plain_player}
-use Rattle.ohh_members.proofs.players.has_seat.Given as goal
+use Rattle.ohh_members.proofs.players.is_seat_taken.Given as goal
 
 -- some player has it if one of those that are left does
 abbrev pub invariant-loop-player : goal.invariant-loop-player

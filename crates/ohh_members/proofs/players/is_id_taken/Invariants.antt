@@ -1,6 +1,6 @@
 use Rattle.std.proofs.Common.{◌≡◌, drop, map}
 use Rattle.ohh_members.specs.Players.{has_id, plain_player}
-use Rattle.ohh_members.proofs.players.has_id.Given as goal
+use Rattle.ohh_members.proofs.players.is_id_taken.Given as goal
 
 -- some player has it if one of those that are left does
 abbrev pub invariant-loop-player : goal.invariant-loop-player

@@ -1,6 +1,6 @@
 use Rattle.std.proofs.Common.{◌≡◌, drop, map}
 use Rattle.ohh_members.specs.Players.{player_at, plain_player}
-use Rattle.ohh_members.proofs.seating.player_at.Given as goal
+use Rattle.ohh_members.proofs.seating.find_player.Given as goal
 
 -- the player is among those that are left
 abbrev pub invariant-loop-player : goal.invariant-loop-player

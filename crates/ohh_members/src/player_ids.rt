@@ -4,7 +4,7 @@ ghost use Rattle.std.specs.Prelude.{◌≡◌, ◌≤◌, length};
 use chip_ledger::PlayerCount;
 
 /// The ids of the players of a hand, the first seat's first.
-#[derive(Clone, Copy)]
+#[derive(Clone, Copy, Debug, PartialEq, Eq)]
 pub struct PlayerIds<'a> {
     pub ids: &'a [i128],
     pub ghost some: { 2 ≤ length ids.now },

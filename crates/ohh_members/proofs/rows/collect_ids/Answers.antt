@@ -3,7 +3,7 @@ use Rattle.std.specs.Int.{w128}
 use Rattle.std.proofs.lemmas.Int.{to_z-of_z}
 use Rattle.std.proofs.lemmas.List.{map_more, map_push}
 use Rattle.ohh_members.specs.Players.{plain_player}
-use Rattle.ohh_members.proofs.rows.ids_of.Goals as goal
+use Rattle.ohh_members.proofs.rows.collect_ids.Goals as goal
 
 pub loop-player-preserved : goal.loop-player-preserved
 loop-player-preserved c =

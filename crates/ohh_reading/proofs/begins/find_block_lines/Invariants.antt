@@ -2,7 +2,7 @@ use Rattle.std.proofs.Common.{◌≡◌, ◌+◌, ◌≤◌, ◌++◌, [], lengt
 use Rattle.std.specs.Option.{option_map_or}
 use Rattle.ohh_reading.specs.Begins.{block_lines, block_lines_from}
 use Rattle.ohh_reading.specs.Blocks.{lines_of}
-use Rattle.ohh_reading.proofs.begins.block_lines.Given as goal
+use Rattle.ohh_reading.proofs.begins.find_block_lines.Given as goal
 
 -- the numbers so far and those of the lines that are left are all of them
 abbrev pub invariant-loop-rest : goal.invariant-loop-rest

@@ -2,7 +2,7 @@ use Rattle.std.proofs.Common.{◌≡◌, ◌≤◌, ◌+◌, ◌-◌, map}
 use Rattle.std.specs.List.{range_with_len}
 use Rattle.chip_ledger.specs.Greatest.{greatest}
 use Rattle.chip_ledger.specs.SeatRow.{amount_of}
-use Rattle.ohh_writing.proofs.setup.greatest_ante.Given as goal
+use Rattle.ohh_writing.proofs.setup.find_greatest_ante.Given as goal
 
 -- the greatest ante of the seats so far, from the last one down
 abbrev pub invariant-loop-left : goal.invariant-loop-left

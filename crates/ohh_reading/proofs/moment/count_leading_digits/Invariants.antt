@@ -1,6 +1,6 @@
 use Rattle.std.proofs.Common.{◌≡◌, ℕ, ◌<◌, get_or, true}
 use Rattle.std.specs.Char.{is_digit}
-use Rattle.ohh_reading.proofs.moment.digits_in_front.Given as goal
+use Rattle.ohh_reading.proofs.moment.count_leading_digits.Given as goal
 
 -- the characters so far are digits
 abbrev pub invariant-loop-index : goal.invariant-loop-index
