@@ -11,7 +11,7 @@ use Rattle.std.proofs.lemmas.Slice.Eq.{bytes_eq-Decides}
 use Rattle.card_set.specs.declared.card.Card.{Card}
 use Rattle.card_set.specs.declared.card.Slot.{Slot}
 use Rattle.card_set.specs.declared.card.Slot.TheVariants as slots
-use Rattle.card_set.specs.Known.{is_unknown, known_slots}
+use Rattle.card_set.specs.Known.{hides_card, known_slots}
 use Rattle.card_set.specs.Spelling.{spelling}
 use Rattle.chip_ledger.specs.declared.numbers.TheConstants.{MOST_CHIPS}
 use Rattle.first_fault.specs.Digits.{are_digits, number_of}
@@ -99,7 +99,7 @@ amount_again amount most =
 pub slots_again : (most : ℕ) (cards : List Slot) → 1 ≤ length cards → length cards ≤ most → slots_said most (spelling cards) ≡ Ok cards
 slots_again most cards some few = slots_read most (spelling cards) cards refl ∙ rw (le-leb 1 (length cards) some, le-leb (length cards) most few) refl
 
-none_unknown : (cards : List Card) → list_any is_unknown (known_slots cards) ≡ false
+none_unknown : (cards : List Card) → list_any hides_card (known_slots cards) ≡ false
 none_unknown [] = refl
 none_unknown (card ∷ rest) = none_unknown rest
 

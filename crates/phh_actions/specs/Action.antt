@@ -3,7 +3,7 @@ use Rattle.std.specs.Prelude.{ℕ, ◌+◌, ◌==◌, Bool, ◌&&◌, nat_le, by
 use Rattle.std.specs.List.{list_any, position_or_len}
 use Rattle.card_set.specs.declared.card.Card.{Card}
 use Rattle.card_set.specs.declared.card.Slot.{Slot}
-use Rattle.card_set.specs.Known.{is_unknown, known_cards}
+use Rattle.card_set.specs.Known.{hides_card, known_among}
 use Rattle.card_set.specs.Spelling.{slots_spelled}
 use Rattle.chip_ledger.specs.declared.numbers.TheConstants.{MOST_CHIPS}
 use Rattle.chip_ledger.specs.Seat.{seats_of}
@@ -60,7 +60,7 @@ slots_said most word = or_fault faults.BadAction (slots_spelled word) >>= one_to
 
 -- the cards, if all are known
 abbrev pub all_known : List Slot → Read (List Card)
-all_known slots = if list_any is_unknown slots then Err faults.BadAction else Ok (known_cards slots)
+all_known slots = if list_any hides_card slots then Err faults.BadAction else Ok (known_among slots)
 
 -- one to this many known cards
 unfoldable pub cards_said : ℕ → List ℕ → Read (List Card)

@@ -10,4 +10,4 @@ mod writing;
 
 pub use fault::ActionFault;
 pub use reading::read_action;
-pub use writing::{event_text, law_of_words};
+pub use writing::{law_of_words, write_event};

@@ -8,7 +8,7 @@ use crate::fault::ActionFault;
 use crate::words::is_word;
 use card_set::{CardRow, SlotRow, read_slots as read_row};
 use chip_ledger::{MOST_CHIPS, PlayerCount, Seat};
-use first_fault::{are_digits, position_of, read_digits};
+use first_fault::{is_all_digits, position_of, read_digits};
 
 /// The seat of the hand that a word names.
 #[tactic(auto, unfolding(crate::specs::Action::seat_said, crate::specs::Action::seat_named))]
@@ -41,7 +41,7 @@ fn names_seat(name: &[u8], seat: u8) -> bool
 pub fn read_amount(word: &[u8]) -> Result<u64, ActionFault>
     ensures { seen_by (λ amount. amount) result ≡ amount_said word.now }
 {
-    if !are_digits(word) {
+    if !is_all_digits(word) {
         return Err(if is_fraction(word) {
             ActionFault::AmountNotWhole
         } else {
@@ -63,7 +63,7 @@ fn is_fraction(word: &[u8]) -> bool
     if len == word.len() {
         return false;
     }
-    are_digits(&word[..len]) && are_digits(&word[len + 1..])
+    is_all_digits(&word[..len]) && is_all_digits(&word[len + 1..])
 }
 
 /// The cards, if each of them is known.

@@ -6,7 +6,7 @@ ghost use Rattle.first_fault.specs.Words.{words_of};
 
 use crate::fault::ActionFault;
 use crate::parts::{known_cards, read_amount, read_seat, read_slots};
-use crate::words::{before_commentary, is_word};
+use crate::words::{is_word, strip_commentary};
 use card_set::SlotRow;
 use chip_ledger::{PlayerCount, Seat};
 use first_fault::next_word;
@@ -20,7 +20,7 @@ use play_event::{Kind, Spelled};
 pub fn read_action(text: &str, players: PlayerCount) -> Result<Option<Kind>, ActionFault>
     ensures { seen_by (option_map kind_said) result ≡ action_said players.number text.now }
 {
-    ActionReader { players }.read_words(before_commentary(text.as_bytes()))
+    ActionReader { players }.read_words(strip_commentary(text.as_bytes()))
 }
 
 // Reads the words of the actions of a hand with this number of players.

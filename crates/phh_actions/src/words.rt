@@ -5,7 +5,7 @@ ghost use Rattle.phh_actions.specs.Words as words;
 use first_fault::position_of;
 
 /// The text before its commentary.
-pub fn before_commentary(text: &[u8]) -> &[u8]
+pub fn strip_commentary(text: &[u8]) -> &[u8]
     ensures { result.now ≡ words.before_commentary text.now }
 {
     let len = position_of(text, b'#');

@@ -17,25 +17,25 @@ use std::alloc::Global;
 /// The text of an event, as an action of the format. Its actor must be named, and a raise must be
 /// given by the amount that it raises to; the chips that a call is stated to add are not written.
 #[tactic(auto, unfolding(crate::specs::Written::event_text))]
-pub fn event_text(alloc: Global, kind: Kind) -> Result<String, Memory>
+pub fn write_event(alloc: Global, kind: Kind) -> Result<String, Memory>
     requires { IsTrue (has_words (kind_said kind)) }
     ensures { IfOk result (λ text. string_bytes text ≡ written.event_text (kind_said kind)) }
 {
     match kind {
-        Kind::Hole { seat, cards } => hole_text(alloc, seat, cards.as_slice()),
-        Kind::Board { cards } => board_text(alloc, cards.as_slice()),
-        Kind::Fold { actor } => act_text(alloc, actor.unwrap(), "f"),
-        Kind::Call { actor, .. } => act_text(alloc, actor.unwrap(), "cc"),
-        Kind::Raise { actor, amount } => raise_text(alloc, actor.unwrap(), amount),
-        Kind::BringIn { actor } => act_text(alloc, actor.unwrap(), "pb"),
-        Kind::Discard { seat, cards } => discard_text(alloc, seat, cards.as_slice()),
-        Kind::Show { seat, cards } => show_text(alloc, seat, cards.as_slice()),
-        Kind::Muck { seat } => act_text(alloc, seat, "sm"),
+        Kind::Hole { seat, cards } => write_hole(alloc, seat, cards.as_slice()),
+        Kind::Board { cards } => write_board(alloc, cards.as_slice()),
+        Kind::Fold { actor } => write_act(alloc, actor.unwrap(), "f"),
+        Kind::Call { actor, .. } => write_act(alloc, actor.unwrap(), "cc"),
+        Kind::Raise { actor, amount } => write_raise(alloc, actor.unwrap(), amount),
+        Kind::BringIn { actor } => write_act(alloc, actor.unwrap(), "pb"),
+        Kind::Discard { seat, cards } => write_discard(alloc, seat, cards.as_slice()),
+        Kind::Show { seat, cards } => write_show(alloc, seat, cards.as_slice()),
+        Kind::Muck { seat } => write_act(alloc, seat, "sm"),
     }
 }
 
 #[tactic(auto, unfolding(crate::specs::Written::event_text))]
-fn hole_text(alloc: Global, seat: Seat, slots: &[Slot]) -> Result<String, Memory>
+fn write_hole(alloc: Global, seat: Seat, slots: &[Slot]) -> Result<String, Memory>
     ensures { IfOk result
         (λ text. string_bytes text ≡ written.event_text (Hole seat.number slots.now)) }
 {
@@ -46,7 +46,7 @@ fn hole_text(alloc: Global, seat: Seat, slots: &[Slot]) -> Result<String, Memory
 }
 
 #[tactic(auto, unfolding(crate::specs::Written::event_text))]
-fn board_text(alloc: Global, cards: &[Card]) -> Result<String, Memory>
+fn write_board(alloc: Global, cards: &[Card]) -> Result<String, Memory>
     ensures { IfOk result (λ text. string_bytes text ≡ written.event_text (Board cards.now)) }
 {
     let mut text = string_from(alloc, "d db ")?;
@@ -55,7 +55,7 @@ fn board_text(alloc: Global, cards: &[Card]) -> Result<String, Memory>
 }
 
 #[tactic(auto, unfolding(crate::specs::Written::event_text))]
-fn raise_text(alloc: Global, seat: Seat, amount: Spelled) -> Result<String, Memory>
+fn write_raise(alloc: Global, seat: Seat, amount: Spelled) -> Result<String, Memory>
     requires { IsTrue (has_words (Raise (Some seat.number) amount)) }
     ensures { IfOk result (λ text. string_bytes text
         ≡ written.event_text (Raise (Some seat.number) amount)) }
@@ -68,11 +68,11 @@ fn raise_text(alloc: Global, seat: Seat, amount: Spelled) -> Result<String, Memo
 }
 
 #[tactic(auto, unfolding(crate::specs::Written::event_text))]
-fn discard_text(alloc: Global, seat: Seat, slots: &[Slot]) -> Result<String, Memory>
+fn write_discard(alloc: Global, seat: Seat, slots: &[Slot]) -> Result<String, Memory>
     ensures { IfOk result
         (λ text. string_bytes text ≡ written.event_text (Discard seat.number slots.now)) }
 {
-    let mut text = act_text(alloc, seat, "sd")?;
+    let mut text = write_act(alloc, seat, "sd")?;
     if !slots.is_empty() {
         text.try_push_str(" ")?;
         push_slots(&mut text, slots)?;
@@ -91,17 +91,17 @@ fn push_slots(text: &mut String, slots: &[Slot]) -> Result<(), Memory>
 }
 
 #[tactic(auto, unfolding(crate::specs::Written::event_text))]
-fn show_text(alloc: Global, seat: Seat, cards: &[Card]) -> Result<String, Memory>
+fn write_show(alloc: Global, seat: Seat, cards: &[Card]) -> Result<String, Memory>
     ensures { IfOk result
         (λ text. string_bytes text ≡ written.event_text (Show seat.number cards.now)) }
 {
-    let mut text = act_text(alloc, seat, "sm ")?;
+    let mut text = write_act(alloc, seat, "sm ")?;
     push_cards(&mut text, cards)?;
     Ok(text)
 }
 
 // What a seat does, in one word.
-fn act_text(alloc: Global, seat: Seat, act: &str) -> Result<String, Memory>
+fn write_act(alloc: Global, seat: Seat, act: &str) -> Result<String, Memory>
     ensures { IfOk result (λ text. string_bytes text ≡ default_name seat.number ++ 32 ∷ act.now) }
 {
     let number = seat.number();

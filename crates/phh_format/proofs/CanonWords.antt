@@ -3,7 +3,7 @@ use Rattle.std.proofs.Common.{◌≡◌, ℕ, Bool, true, false, ◌&&◌, ◌==
 use Rattle.std.specs.List.{list_all, list_any}
 use Rattle.std.proofs.lemmas.List.Folds.{list_all-append}
 use Rattle.card_set.specs.declared.card.Slot.{Slot}
-use Rattle.card_set.specs.Known.{known_cards}
+use Rattle.card_set.specs.Known.{known_among}
 use Rattle.play_event.specs.Past.{Act, Folded, Called, Raised, BroughtIn, Move}
 use Rattle.play_event.specs.Said.{Said, Discard, Show, Muck}
 use Rattle.play_event.specs.Seats.{all_seats, is_live, live_count}
@@ -84,7 +84,7 @@ module _ (setup : Setup) (placed : List TracedPlace) (moves : List Move) where
   live_seats = filter (is_live moves) (all_seats setup)
 
   seat_words : (shown : List ℕ) (seat : ℕ) → has_words (showing_said placed shown seat) ≡ true
-  seat_words shown seat = showing_words (list_any (λ other. other == seat) shown) (Show seat (known_cards (held_slots placed seat))) (Muck seat) refl refl
+  seat_words shown seat = showing_words (list_any (λ other. other == seat) shown) (Show seat (known_among (held_slots placed seat))) (Muck seat) refl refl
 
   showdown_words : (shown : List ℕ) → HaveWords (showdown_said setup placed moves shown)
   showdown_words shown =

@@ -5,7 +5,7 @@ use Rattle.std.proofs.lemmas.List.{drop_more}
 use Rattle.std.proofs.lemmas.Option.{get_or_from_slice_get, slice_get_within}
 use Rattle.toml.specs.Data.{Members, table}
 use Rattle.hand_canon.specs.declared.trace.Play.{Play}
-use Rattle.phh_format.specs.Members.{put, table_of}
+use Rattle.phh_format.specs.Members.{table_of, with_member}
 use Rattle.phh_format.specs.Document.{document, hand_table, numbered_hands}
 
 -- the document of one hand is its table
@@ -22,12 +22,12 @@ of_others (play ∷ next ∷ rest) other = refl
 
 -- one more hand before those from a number on
 pub one_before : (plays : List Play) (index left : ℕ) (play : Play) (key : List ℕ) (old new : Members) → left ≡ index + 1 → slice_get plays index ≡ Some play → key ≡ decimal (index + 1)
-    → old ≡ table_of (numbered_hands left (drop left plays)) → new ≡ put key (table (hand_table index play)) old → new ≡ table_of (numbered_hands index (drop index plays))
+    → old ≡ table_of (numbered_hands left (drop left plays)) → new ≡ with_member key (table (hand_table index play)) old → new ≡ table_of (numbered_hands index (drop index plays))
 one_before plays index left play key old new is here named so_far more =
     let within = slice_get_within plays index play here in
     let cut : drop index plays ≡ play ∷ drop (index + 1) plays =
     drop_more plays index play within ∙ ap (λ (p : Play). p ∷ drop (index + 1) plays) (get_or_from_slice_get plays index play play here) in
     more
-    ∙ ap (λ (k : List ℕ). put k (table (hand_table index play)) old) named
-    ∙ ap (put (decimal (index + 1)) (table (hand_table index play))) (so_far ∙ ap (λ (n : ℕ). table_of (numbered_hands n (drop n plays))) is)
+    ∙ ap (λ (k : List ℕ). with_member k (table (hand_table index play)) old) named
+    ∙ ap (with_member (decimal (index + 1)) (table (hand_table index play))) (so_far ∙ ap (λ (n : ℕ). table_of (numbered_hands n (drop n plays))) is)
     ∙ ap (λ (list : List Play). table_of (numbered_hands index list)) (sym cut)

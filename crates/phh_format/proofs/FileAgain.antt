@@ -18,7 +18,7 @@ use Rattle.phh_format.specs.Again.{hand_again, hands_again}
 use Rattle.phh_format.proofs.EventsAgain.{HaveRoom, counts_with, one_more}
 use Rattle.card_set.proofs.Counting.{count_by-cons}
 use Rattle.std.proofs.lemmas.List.Sums.{sum_by-cons}
-use Rattle.play_event.specs.PlayedScript.{is_move}
+use Rattle.play_event.specs.PlayedScript.{is_move_event}
 use Rattle.play_event.specs.Said.{Said}
 use Rattle.phh_reading.specs.declared.events.EventCounts.{EventCounts}
 use Rattle.phh_format.proofs.Readable.{IsReadable, moves_written}
@@ -83,12 +83,12 @@ one_counted counts true m = omega arith
 one_counted counts false m = omega arith
 
 -- the moves of the file grow by the moves of the events
-moves_counted : (counts : EventCounts) (events : List Said) → (counts_with counts events).file_moves ≡ counts.file_moves + count_by is_move events
+moves_counted : (counts : EventCounts) (events : List Said) → (counts_with counts events).file_moves ≡ counts.file_moves + count_by is_move_event events
 moves_counted counts [] = omega arith
 moves_counted counts (event ∷ rest) =
-    moves_counted (one_more counts (is_move event)) rest
-    ∙ one_counted counts (is_move event) (count_by is_move rest)
-    ∙ ap (λ (n : ℕ). counts.file_moves + n) (sym (count_by-cons is_move event rest))
+    moves_counted (one_more counts (is_move_event event)) rest
+    ∙ one_counted counts (is_move_event event) (count_by is_move_event rest)
+    ∙ ap (λ (n : ℕ). counts.file_moves + n) (sym (count_by-cons is_move_event event rest))
 
 room_for : (file_moves : ℕ) (plays : List Play) → AllByRecursion IsReadable plays → file_moves + sum_by moves_written plays ≤ MOST_FILE_MOVES → AreReadable file_moves plays
 room_for file_moves [] each few = tt

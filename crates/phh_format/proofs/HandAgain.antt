@@ -12,7 +12,7 @@ use Rattle.phh_actions.specs.Written.{event_text}
 use Rattle.phh_reading.specs.declared.field_fault.FieldFault.{FieldFault}
 use Rattle.phh_reading.specs.declared.field_fault.FieldKey.{FieldKey}
 use Rattle.phh_reading.specs.declared.field_fault.FieldKey.TheVariants as keys
-use Rattle.phh_reading.specs.Fields.{at_key, field, key_text, list_said, required}
+use Rattle.phh_reading.specs.Fields.{field_value, key_place, key_text, list_said, required_value}
 use Rattle.phh_reading.specs.Rows.{rakes_from, rakes_said, row_said}
 use Rattle.phh_reading.specs.NoteFields.{PlainSeating, day_said, labels_said, notes_said, seating_said}
 use Rattle.phh_reading.specs.Events.{counts_after}
@@ -59,17 +59,17 @@ module _ (place : ℕ) (play : Play) (is : IsReadable play) where
   abbrev members : Members
   members = hand_table place play
 
-  here : (key : FieldKey) → field key members ≡ field_at (key_text key) (hand_fields place play)
+  here : (key : FieldKey) → field_value key members ≡ field_at (key_text key) (hand_fields place play)
   here key = at place play is.valid key
 
   few : seats ≤ 10
   few = setup.stacks.greatest
 
-  actions_again : (required keys.Actions members >>= list_said (at_key keys.Actions)) ≡ Ok (map string (map event_text (script_of play.trace)))
-  unfolding required list_said
+  actions_again : (required_value keys.Actions members >>= list_said (key_place keys.Actions)) ≡ Ok (map string (map event_text (script_of play.trace)))
+  unfolding required_value list_said
   actions_again = rw (here keys.Actions) (ap (λ items. Ok items) (listed_again (map string (map event_text (script_of play.trace)))))
 
-  finish_again : read_if (row_said seats MOST_AMOUNT keys.FinishingStacks) (field keys.FinishingStacks members) ≡ Ok (Some (amounts_in play.trace.finish))
+  finish_again : read_if (row_said seats MOST_AMOUNT keys.FinishingStacks) (field_value keys.FinishingStacks members) ≡ Ok (Some (amounts_in play.trace.finish))
   finish_again =
       rw (
         here keys.FinishingStacks,
@@ -84,13 +84,13 @@ module _ (place : ℕ) (play : Play) (is : IsReadable play) where
       rw (
         here keys.Year,
         field_alone (number_field notes.year),
-        said_again 1 9999 (at_key keys.Year) notes.year is.notes.year,
+        said_again 1 9999 (key_place keys.Year) notes.year is.notes.year,
         here keys.Month,
         field_alone (number_field notes.month),
-        said_again 1 12 (at_key keys.Month) notes.month is.notes.month,
+        said_again 1 12 (key_place keys.Month) notes.month is.notes.month,
         here keys.Day,
         field_alone (number_field notes.day),
-        said_again 1 31 (at_key keys.Day) notes.day is.notes.day,
+        said_again 1 31 (key_place keys.Day) notes.day is.notes.day,
         calendar_again notes.year notes.month notes.day is.notes.date,
       ) refl
 
@@ -101,16 +101,16 @@ module _ (place : ℕ) (play : Play) (is : IsReadable play) where
       rw (
         here keys.Hand,
         field_alone (hand_field place notes.hand),
-        name_again place (at_key keys.Hand) notes.hand is.notes.hand,
+        name_again place (key_place keys.Hand) notes.hand is.notes.hand,
         here keys.Table,
         field_alone (option_map label notes.table),
-        table_again (at_key keys.Table) notes.table is.notes.texts.0,
+        table_again (key_place keys.Table) notes.table is.notes.texts.0,
         here keys.Venue,
         field_alone (option_map string notes.venue),
-        text_note_again (at_key keys.Venue) notes.venue is.notes.texts.1.0,
+        text_note_again (key_place keys.Venue) notes.venue is.notes.texts.1.0,
         here keys.Currency,
         field_alone (option_map string notes.currency),
-        text_note_again (at_key keys.Currency) notes.currency is.notes.texts.1.1.0,
+        text_note_again (key_place keys.Currency) notes.currency is.notes.texts.1.1.0,
       ) refl
 
   seating_again : seating_said seats members ≡ Ok (seating_of (said_notes place seats play.hand.notes))
@@ -142,7 +142,7 @@ module _ (place : ℕ) (play : Play) (is : IsReadable play) where
         time_again notes.time is.notes.time,
         here keys.TimeZone,
         field_alone (option_map string notes.zone),
-        text_note_again (at_key keys.TimeZone) notes.zone is.notes.zone,
+        text_note_again (key_place keys.TimeZone) notes.zone is.notes.zone,
       ) refl
 
   none_behind : (k : ℕ) → play.trace.pots.count ≤ k → get_or setup.rakes.rakes k 0 ≡ 0
@@ -159,7 +159,7 @@ module _ (place : ℕ) (play : Play) (is : IsReadable play) where
       let count : length (number_data taken) ≡ length taken = length-map taken (λ number. integer (pos number)) in
       let short : length taken ≤ 11 = omega (arith, length-take-le play.trace.pots.count setup.rakes.rakes (omega (arith, setup.rakes.full, play.trace.pots.most)), play.trace.pots.most) in
       rw (
-        list_again (at_key keys.Rakes) taken,
+        list_again (key_place keys.Rakes) taken,
         le-leb (length (number_data taken)) 11 (omega (arith, count, short)),
         amounts_again 0 MOST_AMOUNT keys.Rakes taken (each_taken (IsWithin 0 MOST_AMOUNT) play.trace.pots.count setup.rakes.rakes (omega (arith, setup.rakes.full, play.trace.pots.most)) rake_few),
       )

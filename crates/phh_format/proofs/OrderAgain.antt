@@ -15,7 +15,7 @@ use Rattle.std.proofs.lemmas.List.{append-nil}
 use Rattle.toml.specs.Data.{Data, Members, no_members, member, table}
 use Rattle.hand_canon.specs.declared.trace.Play.{Play}
 use Rattle.phh_reading.specs.Order.{Entry, is_multi_hand, in_order, is_table, key_cmp, placed, placed_all, tables_among}
-use Rattle.phh_format.specs.Members.{put, table_of}
+use Rattle.phh_format.specs.Members.{table_of, with_member}
 use Rattle.phh_format.specs.Document.{hand_table, numbered_hands}
 use Rattle.card_set.proofs.Digits.{number_said}
 use Rattle.card_set.proofs.Orderings.{less_not_equal}
@@ -117,8 +117,8 @@ same_key_cmp : (k : List ℕ) → key_cmp k k ≡ Equal
 same_key_cmp k = tied_itself key_total k
 
 put_at : (o : Ordering) (es : List Entry) (k l : List ℕ) (v w : Data) (rest : Members) → slice_cmp nat_cmp k l ≡ o → (key_cmp k l ≡ Equal → ⊥)
-    → placed_all (placed l w es) (put k v rest) ≡ placed_all (placed k v (placed l w es)) rest
-    → placed_all es (match_ordering o (member k v (member l w rest)) (member l v rest) (member l w (put k v rest))) ≡ placed_all (placed k v es) (member l w rest)
+    → placed_all (placed l w es) (with_member k v rest) ≡ placed_all (placed k v (placed l w es)) rest
+    → placed_all es (match_ordering o (member k v (member l w rest)) (member l v rest) (member l w (with_member k v rest))) ≡ placed_all (placed k v es) (member l w rest)
 put_at Less es k l v w rest is other later = refl
 put_at Equal es k l v w rest is other later =
     let same : k ≡ l = (bytes_eq-Decides k l).0 (sym (is_eq-slice_cmp k l) ∙ ap is_eq is) in
@@ -126,7 +126,7 @@ put_at Equal es k l v w rest is other later =
 put_at Greater es k l v w rest is other later = later ∙ ap (λ (entries : List Entry). placed_all entries rest) (placed_either k l v w other es)
 
 -- what is put among members can be placed before them
-placed_first : (es : List Entry) (k : List ℕ) (v : Data) (members : Members) → IsNew k members → placed_all es (put k v members) ≡ placed_all (placed k v es) members
+placed_first : (es : List Entry) (k : List ℕ) (v : Data) (members : Members) → IsNew k members → placed_all es (with_member k v members) ≡ placed_all (placed k v es) members
 placed_first es k v no_members new = refl
 placed_first es k v (member l w rest) new =
     put_at (slice_cmp nat_cmp k l) es k l v w rest refl new.0 (placed_first (placed l w es) k v rest new.1)
@@ -137,9 +137,9 @@ new_at Less q k l v w rest more other new later = (other, new)
 new_at Equal q k l v w rest more other new later = new
 new_at Greater q k l v w rest more other new later = (new.0, later)
 
-new_put : (q k : List ℕ) (v : Data) (members : Members) → (key_cmp q k ≡ Equal → ⊥) → IsNew q members → IsNew q (put k v members)
+new_put : (q k : List ℕ) (v : Data) (members : Members) → (key_cmp q k ≡ Equal → ⊥) → IsNew q members → IsNew q (with_member k v members)
 new_put q k v no_members other new = (other, tt)
-new_put q k v (member l w rest) other new = new_at (slice_cmp nat_cmp k l) q k l v w rest (put k v rest) other new (new_put q k v rest other new.1)
+new_put q k v (member l w rest) other new = new_at (slice_cmp nat_cmp k l) q k l v w rest (with_member k v rest) other new (new_put q k v rest other new.1)
 
 -- the keys of numbers compare as the numbers
 lower_key : (n m : ℕ) → n < m → m < 2 ^ 64 → key_cmp (decimal n) (decimal m) ≡ Less
@@ -211,10 +211,10 @@ hands_at Equal k l v w rest more one is all later =
     rw (ap (λ (key : List ℕ). are_digits key && is_table v) (sym same) ∙ one) (and_parts (are_digits l && is_table w) (is_multi_hand rest) all).1
 hands_at Greater k l v w rest more one is all later = rw ((and_parts (are_digits l && is_table w) (is_multi_hand rest) all).0) later
 
-hands_put : (k : List ℕ) (v : Data) (members : Members) → (are_digits k && is_table v) ≡ true → is_multi_hand members ≡ true → is_multi_hand (put k v members) ≡ true
+hands_put : (k : List ℕ) (v : Data) (members : Members) → (are_digits k && is_table v) ≡ true → is_multi_hand members ≡ true → is_multi_hand (with_member k v members) ≡ true
 hands_put k v no_members one all = rw one refl
 hands_put k v (member l w rest) one all =
-    hands_at (slice_cmp nat_cmp k l) k l v w rest (put k v rest) one refl all (hands_put k v rest one (and_parts (are_digits l && is_table w) (is_multi_hand rest) all).1)
+    hands_at (slice_cmp nat_cmp k l) k l v w rest (with_member k v rest) one refl all (hands_put k v rest one (and_parts (are_digits l && is_table w) (is_multi_hand rest) all).1)
 
 pub are_hands_again : (place : ℕ) (plays : List Play) → place + length plays < 2 ^ 64 → is_multi_hand (table_of (numbered_hands place plays)) ≡ true
 are_hands_again place [] small = refl

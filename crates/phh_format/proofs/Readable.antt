@@ -1,7 +1,7 @@
 -- What a reader needs of a play, so that it reads back after it was written.
 use Rattle.std.specs.Prelude.{◌≡◌, ℕ, ◌<◌, count_by}
 use Rattle.std.specs.List.{AllByRecursion}
-use Rattle.play_event.specs.PlayedScript.{IsWithinLimits, is_move}
+use Rattle.play_event.specs.PlayedScript.{IsWithinLimits, is_move_event}
 use Rattle.chip_ledger.specs.RakeRow.{rake_of}
 use Rattle.play_event.specs.ValidSetup.{IsValid}
 use Rattle.hand_canon.specs.declared.trace.Play.{Play}
@@ -21,4 +21,4 @@ pub record IsReadable (play : Play) : Type 0 where
 
 -- the moves that are written of a play
 abbrev pub moves_written : Play → ℕ
-moves_written play = count_by is_move (script_of play.trace)
+moves_written play = count_by is_move_event (script_of play.trace)

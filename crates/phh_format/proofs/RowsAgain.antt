@@ -10,7 +10,7 @@ use Rattle.chip_ledger.specs.SeatRow.{amount_of, amounts_in}
 use Rattle.first_fault.specs.Reading.{each_from}
 use Rattle.phh_reading.specs.declared.field_fault.FieldKey.{FieldKey}
 use Rattle.phh_reading.specs.declared.field_fault.FieldLocation.{FieldLocation}
-use Rattle.phh_reading.specs.Fields.{amount_said, at_item, items_said, list_said, listed}
+use Rattle.phh_reading.specs.Fields.{amount_said, item_place, items_said, list_said, listed}
 use Rattle.phh_reading.specs.Rows.{amounts_said, row_said}
 use Rattle.phh_format.specs.HandFields.{numbers}
 use Rattle.card_set.proofs.Entries.{each_taken}
@@ -30,11 +30,11 @@ unfolding amount_said
 amount_again least most number place low high = rw (le-leb least number low, le-leb number most high) refl
 
 amounts_from : (least most : ℕ) (key : FieldKey) (n : ℕ) (all : List ℕ) → AllByRecursion (IsWithin least most) all
-    → each_from (λ n value. amount_said least most (at_item key n) value) n (number_data all) ≡ Ok all
+    → each_from (λ n value. amount_said least most (item_place key n) value) n (number_data all) ≡ Ok all
 unfolding each_from
 amounts_from least most key n [] each = refl
 amounts_from least most key n (number ∷ rest) each =
-    rw (amount_again least most number (at_item key n) each.0.0 each.0.1, amounts_from least most key (n + 1) rest each.1) refl
+    rw (amount_again least most number (item_place key n) each.0.0 each.0.1, amounts_from least most key (n + 1) rest each.1) refl
 
 -- amounts that were written
 pub amounts_again : (least most : ℕ) (key : FieldKey) (all : List ℕ) → AllByRecursion (IsWithin least most) all → amounts_said least most key (number_data all) ≡ Ok all

@@ -13,7 +13,7 @@ use Rattle.hand_canon.specs.declared.notes.Notes.{Notes}
 use Rattle.hand_canon.specs.AllowedNotes.{AreSeatNumbers, IsName, IsSeatCount, IsWithin, name_written, non_default_seats}
 use Rattle.phh_reading.specs.declared.field_fault.FieldKey.TheVariants as keys
 use Rattle.phh_reading.specs.declared.field_fault.FieldLocation.{FieldLocation}
-use Rattle.phh_reading.specs.Fields.{at_item, at_key, items_said, list_said, number_said, text_said}
+use Rattle.phh_reading.specs.Fields.{item_place, items_said, key_place, list_said, number_said, text_said}
 use Rattle.phh_reading.specs.NoteFields.{names_said, note_said, seat_count_said, seats_said, text_note_said}
 use Rattle.phh_format.specs.HandFields.{names_field, number_field, numbers, texts}
 use Rattle.phh_format.proofs.RowsAgain.{items_again, listed_again, number_data}
@@ -42,12 +42,12 @@ one_name seat place (Some name) few is = note_again (default_name seat) name pla
 
 module _ (notes : Notes) (count : ℕ) (few : count ≤ 10) (named : (seat : ℕ) → 1 ≤ seat → seat ≤ count → IfSome (name_at notes seat) (IsName seat)) where
   each_name : (n c : ℕ) → n + c ≤ count
-      → each_from (λ m value. text_note_said (default_name m) (at_item keys.Players m) value) (n + 1) (map string (map (name_written notes) (range_with_len (n + 1) c))) ≡ Ok (map (name_at notes) (range_with_len (n + 1) c))
+      → each_from (λ m value. text_note_said (default_name m) (item_place keys.Players m) value) (n + 1) (map string (map (name_written notes) (range_with_len (n + 1) c))) ≡ Ok (map (name_at notes) (range_with_len (n + 1) c))
   unfolding each_from
   each_name n zero within = refl
   each_name n (suc c) within =
       rw (
-        one_name (n + 1) (at_item keys.Players (n + 1)) (name_at notes (n + 1)) (omega (arith, within, few)) (named (n + 1) (omega arith) (omega (arith, within))),
+        one_name (n + 1) (item_place keys.Players (n + 1)) (name_at notes (n + 1)) (omega (arith, within, few)) (named (n + 1) (omega arith) (omega (arith, within))),
         each_name (n + 1) c (omega (arith, within)),
       ) refl
 
@@ -81,11 +81,11 @@ module _ (notes : Notes) (count : ℕ) (few : count ≤ 10) (named : (seat : ℕ
   names_again = none_named (list_any is_some (take count notes.names)) refl
 
 -- the numbers of seats
-each_number : (n : ℕ) (all : List ℕ) → ((k : ℕ) → k < length all → IsWithin 1 255 (get_or all k 0)) → each_from (λ m value. number_said 1 255 (at_item keys.Seats m) value) n (number_data all) ≡ Ok all
+each_number : (n : ℕ) (all : List ℕ) → ((k : ℕ) → k < length all → IsWithin 1 255 (get_or all k 0)) → each_from (λ m value. number_said 1 255 (item_place keys.Seats m) value) n (number_data all) ≡ Ok all
 unfolding each_from
 each_number n [] each = refl
 each_number n (number ∷ rest) each =
-    rw (number_again 1 255 number (at_item keys.Seats n) (each 0 (omega arith)), each_number (n + 1) rest (λ k within. each (suc k) (omega (arith, within)))) refl
+    rw (number_again 1 255 number (item_place keys.Seats n) (each 0 (omega arith)), each_number (n + 1) rest (λ k within. each (suc k) (omega (arith, within)))) refl
 
 pub seats_again : (count : ℕ) (said : Option (List ℕ)) → 1 ≤ count → IfSome said (AreSeatNumbers count) → or_none (seats_said count) (option_map (λ seats. numbers (take count seats)) said) ≡ Ok (option_and_then (λ seats. non_default_seats count (take count seats)) said)
 unfolding seats_said
@@ -108,4 +108,4 @@ seats_again count (Some seats) some are =
 pub seat_count_again : (count : ℕ) (said : Option ℕ) → IfSome said (IsSeatCount count) → or_none (seat_count_said count) (number_field said) ≡ Ok said
 unfolding seat_count_said
 seat_count_again count None is = refl
-seat_count_again count (Some number) is = rw (number_again 1 255 number (at_key keys.SeatCount) is.range, ne_eqb number count is.said) refl
+seat_count_again count (Some number) is = rw (number_again 1 255 number (key_place keys.SeatCount) is.range, ne_eqb number count is.said) refl

@@ -8,13 +8,13 @@ use Rattle.chip_ledger.specs.declared.numbers.TheConstants.{MOST_CHIPS}
 use Rattle.chip_ledger.specs.SeatRow.{amount_of, amounts_in}
 use Rattle.play_event.specs.declared.setup.Setup.{Setup}
 use Rattle.play_event.specs.Games.{game_of}
-use Rattle.play_event.specs.Streets.{is_stud, limit_of}
-use Rattle.play_event.specs.ValidSetup.{IsSizeWhere, IsValid, is_fixed}
+use Rattle.play_event.specs.Streets.{is_stud_game, limit_of}
+use Rattle.play_event.specs.ValidSetup.{IsSizeWhere, IsValid, is_fixed_limit}
 use Rattle.first_fault.specs.Reading.{◌>>=◌, each_from}
 use Rattle.hand_canon.specs.declared.trace.Play.{Play}
 use Rattle.phh_reading.specs.declared.field_fault.FieldKey.{FieldKey}
 use Rattle.phh_reading.specs.declared.field_fault.FieldKey.TheVariants as keys
-use Rattle.phh_reading.specs.Fields.{at_item, at_key, field, flag_said, key_text, required, text_said}
+use Rattle.phh_reading.specs.Fields.{field_value, flag_said, item_place, key_place, key_text, required_value, text_said}
 use Rattle.phh_reading.specs.Rows.{ante_said, antes_said, heads_up_swapped, stacks_said}
 use Rattle.phh_reading.specs.SetupFields.{are_dead, blinds_said, setup_said, size_said, sizes_said, trimming_said, variant_said}
 use Rattle.phh_format.specs.Document.{hand_table}
@@ -28,14 +28,14 @@ use Rattle.hand_canon.specs.AllowedNotes.{IsWithin}
 use Rattle.hand_canon.specs.PlainHands.{plain_setup}
 
 -- an ante that is no more than the stack stays as it is
-ante_again : (stack ante n : ℕ) → ante ≤ stack → ante ≤ MOST_CHIPS → ante_said stack (at_item keys.Antes n) (integer (pos ante)) ≡ Ok ante
+ante_again : (stack ante n : ℕ) → ante ≤ stack → ante ≤ MOST_CHIPS → ante_said stack (item_place keys.Antes n) (integer (pos ante)) ≡ Ok ante
 unfolding ante_said
 ante_again stack ante n less few =
     let kept : min ante stack ≡ ante = omega (arith, less) in
-    rw (amount_again 0 MOST_CHIPS ante (at_item keys.Antes n) (omega arith) few) (ap (λ kept. Ok kept) kept)
+    rw (amount_again 0 MOST_CHIPS ante (item_place keys.Antes n) (omega arith) few) (ap (λ kept. Ok kept) kept)
 
 antes_at : (stacks : List ℕ) (n : ℕ) (antes : List ℕ) → AllByRecursion (IsWithin 0 MOST_CHIPS) antes → ((k : ℕ) → get_or antes k 0 ≤ get_or stacks (n + k) 0)
-    → each_from (λ m value. ante_said (get_or stacks (m - 1) 0) (at_item keys.Antes m) value) (n + 1) (number_data antes) ≡ Ok antes
+    → each_from (λ m value. ante_said (get_or stacks (m - 1) 0) (item_place keys.Antes m) value) (n + 1) (number_data antes) ≡ Ok antes
 unfolding each_from
 antes_at stacks n [] each less = refl
 antes_at stacks n (ante ∷ rest) each less =
@@ -94,23 +94,23 @@ module _ (place : ℕ) (play : Play) (valid : IsValid play.trace.setup) where
   members = hand_table place play
 
   -- the value at a key
-  pub at : (key : FieldKey) → field key members ≡ field_at (key_text key) (hand_fields place play)
+  pub at : (key : FieldKey) → field_value key members ≡ field_at (key_text key) (hand_fields place play)
   unfolding hand_table
   at key = get_member-table_of (key_text key) (hand_fields place play)
 
-  variant_again : (required keys.Variant members >>= variant_said) ≡ Ok setup.code
-  unfolding required variant_said text_said
+  variant_again : (required_value keys.Variant members >>= variant_said) ≡ Ok setup.code
+  unfolding required_value variant_said text_said
   variant_again = rw (at keys.Variant, own_code setup.code) refl
 
   stacks_count : length (amounts_in setup.stacks) ≡ setup.stacks.seats
   stacks_count = amount_count setup.stacks
 
-  stacks_again : (required keys.StartingStacks members >>= stacks_said (game_of setup.code).seats) ≡ Ok (amounts_in setup.stacks)
-  unfolding required stacks_said
+  stacks_again : (required_value keys.StartingStacks members >>= stacks_said (game_of setup.code).seats) ≡ Ok (amounts_in setup.stacks)
+  unfolding required_value stacks_said
   stacks_again =
       let all = amounts_in setup.stacks in
       let count : length (number_data all) ≡ setup.stacks.seats = length-map all (λ number. integer (pos number)) ∙ stacks_count in
-      rw (at keys.StartingStacks, list_again (at_key keys.StartingStacks) all, le-leb 2 (length (number_data all)) (omega (arith, count, setup.stacks.least)), le-leb (length (number_data all)) (game_of setup.code).seats (omega (arith, count, valid.few_seats)))
+      rw (at keys.StartingStacks, list_again (key_place keys.StartingStacks) all, le-leb 2 (length (number_data all)) (omega (arith, count, setup.stacks.least)), le-leb (length (number_data all)) (game_of setup.code).seats (omega (arith, count, valid.few_seats)))
       (amounts_again 1 MOST_CHIPS keys.StartingStacks all (each_amount (IsWithin 1 MOST_CHIPS) setup.stacks valid.stacks))
 
   antes_count : length (amounts_in setup.antes) ≡ length (amounts_in setup.stacks)
@@ -119,8 +119,8 @@ module _ (place : ℕ) (play : Play) (valid : IsValid play.trace.setup) where
   ante_few : (seat : ℕ) → 1 ≤ seat → seat ≤ setup.antes.seats → IsWithin 0 MOST_CHIPS (amount_of setup.antes seat)
   ante_few seat from within = (omega arith, omega (arith, valid.antes seat, (valid.stacks seat from (omega (arith, within, valid.same_antes))).1))
 
-  antes_again : (required keys.Antes members >>= antes_said (amounts_in setup.stacks)) ≡ Ok (amounts_in setup.antes)
-  unfolding required
+  antes_again : (required_value keys.Antes members >>= antes_said (amounts_in setup.stacks)) ≡ Ok (amounts_in setup.antes)
+  unfolding required_value
   antes_again = rw (at keys.Antes) (antes_kept (amounts_in setup.stacks) (amounts_in setup.antes) antes_count (each_amount (IsWithin 0 MOST_CHIPS) setup.antes ante_few) ante_less)
     where
       ante_less : (k : ℕ) → get_or (amounts_in setup.antes) k 0 ≤ get_or (amounts_in setup.stacks) k 0
@@ -155,8 +155,8 @@ module _ (place : ℕ) (play : Play) (valid : IsValid play.trace.setup) where
       subst (λ (n : ℕ). get_or (take n setup.blinds.amounts) 1 0 ≤ get_or (take n setup.blinds.amounts) 0 0) (sym seats)
       (two_taken setup.blinds.amounts (valid.heads_up (sym valid.same_blinds ∙ seats)))
 
-  blinds_by : (stud : Bool) → is_stud setup.code ≡ stud → blinds_said setup.code (length (amounts_in setup.stacks)) members ≡ Ok (amounts_in setup.blinds)
-  unfolding blinds_said required
+  blinds_by : (stud : Bool) → is_stud_game setup.code ≡ stud → blinds_said setup.code (length (amounts_in setup.stacks)) members ≡ Ok (amounts_in setup.blinds)
+  unfolding blinds_said required_value
   blinds_by true is =
       let zeros = taken_zeros setup.blinds.seats setup.blinds.amounts (omega (arith, setup.blinds.full, setup.blinds.greatest))
       (λ k. subst (λ (n : ℕ). get_or setup.blinds.amounts n 0 ≡ 0) (omega arith) (valid.stud is (k + 1))) in
@@ -168,21 +168,21 @@ module _ (place : ℕ) (play : Play) (valid : IsValid play.trace.setup) where
       rw (is, at keys.BlindsOrStraddles, is, written) (ap (λ blinds. Ok blinds) (posted_again all greater_first))
 
   blinds_again : blinds_said setup.code (length (amounts_in setup.stacks)) members ≡ Ok (amounts_in setup.blinds)
-  blinds_again = blinds_by (is_stud setup.code) refl
+  blinds_again = blinds_by (is_stud_game setup.code) refl
 
   size_again : (used : Bool) (size : ℕ) (key : FieldKey) → IsSizeWhere used size → field_at (key_text key) (hand_fields place play) ≡ size_field used size → size_said used key members ≡ Ok size
-  unfolding size_said required
-  size_again true size key is found = rw (at key, found) (amount_again 1 MOST_CHIPS size (at_key key) is.0 is.1)
+  unfolding size_said required_value
+  size_again true size key is found = rw (at key, found) (amount_again 1 MOST_CHIPS size (key_place key) is.0 is.1)
   size_again false size key is found = ap (λ n. Ok n) (sym is)
 
   sizes_again : sizes_said setup.code members ≡ Ok (record { bring_in = setup.bring_in; small_bet = setup.small_bet; big_bet = setup.big_bet; min_bet = setup.min_bet })
   unfolding sizes_said
   sizes_again =
       rw (
-        size_again (is_stud setup.code) setup.bring_in keys.BringIn valid.bring_in (field_alone (size_field (is_stud setup.code) setup.bring_in)),
-        size_again (is_fixed (limit_of setup.code)) setup.small_bet keys.SmallBet valid.small_bet (field_alone (size_field (is_fixed (limit_of setup.code)) setup.small_bet)),
-        size_again (is_fixed (limit_of setup.code)) setup.big_bet keys.BigBet valid.big_bet (field_alone (size_field (is_fixed (limit_of setup.code)) setup.big_bet)),
-        size_again (not (is_fixed (limit_of setup.code))) setup.min_bet keys.MinBet valid.least_bet (field_alone (size_field (not (is_fixed (limit_of setup.code))) setup.min_bet)),
+        size_again (is_stud_game setup.code) setup.bring_in keys.BringIn valid.bring_in (field_alone (size_field (is_stud_game setup.code) setup.bring_in)),
+        size_again (is_fixed_limit (limit_of setup.code)) setup.small_bet keys.SmallBet valid.small_bet (field_alone (size_field (is_fixed_limit (limit_of setup.code)) setup.small_bet)),
+        size_again (is_fixed_limit (limit_of setup.code)) setup.big_bet keys.BigBet valid.big_bet (field_alone (size_field (is_fixed_limit (limit_of setup.code)) setup.big_bet)),
+        size_again (not (is_fixed_limit (limit_of setup.code))) setup.min_bet keys.MinBet valid.least_bet (field_alone (size_field (not (is_fixed_limit (limit_of setup.code))) setup.min_bet)),
       ) refl
 
   -- the setup of a hand that was written

@@ -14,11 +14,11 @@ use Rattle.hand_canon.specs.AllowedNotes.{AreAllowed, IsTime, name_written}
 use Rattle.hand_canon.specs.Sound.{IsSound}
 use Rattle.play_event.specs.declared.setup.Setup.{Setup}
 use Rattle.play_event.specs.Code.{code_text}
-use Rattle.play_event.specs.Streets.{is_stud, limit_of}
-use Rattle.play_event.specs.ValidSetup.{is_fixed}
+use Rattle.play_event.specs.Streets.{is_stud_game, limit_of}
+use Rattle.play_event.specs.ValidSetup.{is_fixed_limit}
 use Rattle.phh_actions.specs.Written.{event_text}
 use Rattle.hand_canon.specs.declared.trace.Trace.{Trace}
-use Rattle.phh_format.specs.Members.{Field, put, table_of}
+use Rattle.phh_format.specs.Members.{Field, table_of, with_member}
 use Rattle.phh_format.specs.HandFields.{blinds_written, hand_field, hand_fields, label, local_time, note_fields, number_field, number_written, numbers, script_of, setup_fields, texts, trace_fields}
 use Rattle.phh_format.specs.Document.{document, hand_table, numbered_hands}
 use Rattle.chip_ledger.specs.SeatRow.{amounts_in}
@@ -56,10 +56,10 @@ put_at Less most key next value other rest more one others later = plain_member 
 put_at Equal most key next value other rest more one others later = plain_member most next value rest one (rest_plain most next other rest others)
 put_at Greater most key next value other rest more one others later = plain_member most next other more (first_plain most next other rest others) later
 
-plain_put : (most : ℕ) (key : List ℕ) (value : Data) (members : Members) → IsPlain most value → ArePlain most members → ArePlain most (put key value members)
+plain_put : (most : ℕ) (key : List ℕ) (value : Data) (members : Members) → IsPlain most value → ArePlain most members → ArePlain most (with_member key value members)
 plain_put most key value no_members one all = plain_member most key value no_members one all
 plain_put most key value (member next other rest) one all =
-    put_at (slice_cmp nat_cmp key next) most key next value other rest (put key value rest) one all
+    put_at (slice_cmp nat_cmp key next) most key next value other rest (with_member key value rest) one all
     (plain_put most key value rest one (rest_plain most next other rest all))
 
 no_members_plain : (most : ℕ) → ArePlain most no_members
@@ -154,15 +154,15 @@ setup_plain setup = (
     (
       numbers_plain (amounts_in setup.antes),
       (
-        unless_plain (is_stud setup.code) (numbers (blinds_written (amounts_in setup.blinds))) (numbers_plain (blinds_written (amounts_in setup.blinds))),
+        unless_plain (is_stud_game setup.code) (numbers (blinds_written (amounts_in setup.blinds))) (numbers_plain (blinds_written (amounts_in setup.blinds))),
         (
-          where_plain (is_stud setup.code) (integer (pos setup.bring_in)) (number_plain setup.bring_in),
+          where_plain (is_stud_game setup.code) (integer (pos setup.bring_in)) (number_plain setup.bring_in),
           (
-            where_plain (is_fixed (limit_of setup.code)) (integer (pos setup.small_bet)) (number_plain setup.small_bet),
+            where_plain (is_fixed_limit (limit_of setup.code)) (integer (pos setup.small_bet)) (number_plain setup.small_bet),
             (
-              where_plain (is_fixed (limit_of setup.code)) (integer (pos setup.big_bet)) (number_plain setup.big_bet),
+              where_plain (is_fixed_limit (limit_of setup.code)) (integer (pos setup.big_bet)) (number_plain setup.big_bet),
               (
-                where_plain (not (is_fixed (limit_of setup.code))) (integer (pos setup.min_bet)) (number_plain setup.min_bet),
+                where_plain (not (is_fixed_limit (limit_of setup.code))) (integer (pos setup.min_bet)) (number_plain setup.min_bet),
                 (numbers_plain (amounts_in setup.stacks), tt),
               ),
             ),

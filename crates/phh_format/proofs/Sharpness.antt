@@ -5,7 +5,7 @@ use Rattle.std.specs.List.{AllByRecursion, list_any}
 use Rattle.toml.specs.Data.{Data, Members}
 use Rattle.chip_ledger.specs.declared.seat_row.TheConstants.{MOST_AMOUNT}
 use Rattle.phh_reading.specs.declared.field_fault.FieldKey.TheVariants as keys
-use Rattle.phh_reading.specs.Fields.{at_key, field, list_said, required}
+use Rattle.phh_reading.specs.Fields.{field_value, key_place, list_said, required_value}
 use Rattle.phh_reading.specs.NoteFields.{notes_said}
 use Rattle.phh_reading.specs.Rows.{row_said}
 use Rattle.phh_reading.specs.SetupFields.{setup_said}
@@ -25,7 +25,7 @@ use Rattle.hand_canon.specs.declared.writing.Unspelled.TheVariants as facts
 use Rattle.hand_canon.specs.LegalPlay.{IsTraceOfLegal}
 use Rattle.canon_laws.proofs.SuitedRules.{suits_own}
 use Rattle.phh_reading.specs.Hand.{finish_stated, hand_said, rakes_at}
-use Rattle.phh_reading.specs.Reading.{Wrong, at_variant, document_of, document_said, hands_of, hands_said, in_hand, numbered_hand, reading, records_said, those_said}
+use Rattle.phh_reading.specs.Reading.{Wrong, at_variant, document_of, document_said, hands_of, hands_said, numbered_hand, reading, records_said, result_in_hand, those_said}
 use Rattle.phh_reading.specs.declared.field_fault.FieldFault.{FieldFault}
 use Rattle.phh_reading.specs.declared.field_fault.FieldFaultKind.{FieldFaultKind}
 use Rattle.phh_reading.specs.declared.field_fault.FieldFaultKind.TheVariants as whats
@@ -57,7 +57,7 @@ module _ (file_moves place : ℕ) (members : Members) where
   after_finish setup events finish = rakes_at members >>= after_rakes setup events finish
 
   abbrev finish_read : PlainSetup → Result (Option (List ℕ)) FieldFault
-  finish_read setup = read_if (row_said (length setup.stacks) MOST_AMOUNT keys.FinishingStacks) (field keys.FinishingStacks members)
+  finish_read setup = read_if (row_said (length setup.stacks) MOST_AMOUNT keys.FinishingStacks) (field_value keys.FinishingStacks members)
 
   abbrev after_events : PlainSetup → List Numbered × EventCounts → Result (PlainHand × ℕ) FieldFault
   after_events setup events = finish_read setup >>= after_finish setup events
@@ -66,7 +66,7 @@ module _ (file_moves place : ℕ) (members : Members) where
   after_actions setup actions = events_said (length setup.stacks) (counts_after file_moves) actions >>= after_events setup
 
   abbrev actions_read : Result (List Data) FieldFault
-  actions_read = required keys.Actions members >>= list_said (at_key keys.Actions)
+  actions_read = required_value keys.Actions members >>= list_said (key_place keys.Actions)
 
   abbrev after_setup : PlainSetup → Result (PlainHand × ℕ) FieldFault
   after_setup setup = actions_read >>= after_actions setup
@@ -84,7 +84,7 @@ module _ (file_moves place : ℕ) (members : Members) where
       bound IsFound (rakes_at members) (after_rakes setup events finish) (λ rakes.
       bound IsFound (notes_said place (length setup.stacks) members) (after_notes setup events finish rakes) (λ notes. refl))))))
 
-one_ruled : (number : ℕ) (read : Result (PlainHand × ℕ) FieldFault) → IfOk read (λ found. IsRuled found.0) → IfOk (in_hand number read >>= λ found. Ok (found.0 ∷ [], found.1)) AreRuled
+one_ruled : (number : ℕ) (read : Result (PlainHand × ℕ) FieldFault) → IfOk read (λ found. IsRuled found.0) → IfOk (result_in_hand number read >>= λ found. Ok (found.0 ∷ [], found.1)) AreRuled
 one_ruled number (Ok found) is = (is, tt)
 one_ruled number (Err fault) is = tt
 
@@ -95,7 +95,7 @@ by_limit here number what false is = is
 numbered_ruled : (file_moves number : ℕ) (members : Members) → IfOk (numbered_hand file_moves number members) AreRuled
 unfolding numbered_hand
 numbered_ruled file_moves number members =
-    by_limit (in_hand number (hand_said file_moves (number - 1) members) >>= λ found. Ok (found.0 ∷ [], found.1)) number (whats.TooMany quantities.Hands) (nat_lt MOST_HANDS number) (one_ruled number (hand_said file_moves (number - 1) members) (hand_ruled file_moves (number - 1) members))
+    by_limit (result_in_hand number (hand_said file_moves (number - 1) members) >>= λ found. Ok (found.0 ∷ [], found.1)) number (whats.TooMany quantities.Hands) (nat_lt MOST_HANDS number) (one_ruled number (hand_said file_moves (number - 1) members) (hand_ruled file_moves (number - 1) members))
 
 both_ruled : (some more : List PlainHand) → AllByRecursion IsRuled some → AllByRecursion IsRuled more → AllByRecursion IsRuled (some ++ more)
 both_ruled [] more each others = others

@@ -12,7 +12,7 @@ use Rattle.play_event.specs.Scripts.{past_at_end}
 use Rattle.play_event.specs.ValidSetup.{IsValid}
 use Rattle.play_event.specs.declared.setup.Setup.{Setup}
 use Rattle.play_event.specs.CanonScript.{canon_of, canonical_script}
-use Rattle.play_event.specs.PlayedScript.{IsWithinLimits, is_move}
+use Rattle.play_event.specs.PlayedScript.{IsWithinLimits, is_move_event}
 use Rattle.canon_laws.proofs.EventRanges.{events_in_range}
 use Rattle.canon_laws.proofs.SameMoves.{canon_within, same_moves}
 use Rattle.hand_canon.specs.AllowedNotes.{AreAllowed}
@@ -62,7 +62,7 @@ module _ (play : Play) (sound : IsSound play) where
   -- the same number of moves is written as was played
   pub same_count : moves_written play ≡ moves_played play
   same_count =
-      ap (count_by is_move) (sym same_script) ∙ same_moves setup play.hand.rules script sound.legal.played
+      ap (count_by is_move_event) (sym same_script) ∙ same_moves setup play.hand.rules script sound.legal.played
 
   events : AllByRecursion (IsInRange play.trace.setup.stacks.seats) (script_of play.trace)
   events =

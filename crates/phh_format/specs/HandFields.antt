@@ -8,8 +8,8 @@ use Rattle.chip_ledger.specs.declared.rakes.RakeRow.{RakeRow}
 use Rattle.first_fault.specs.Digits.{are_digits, number_of}
 use Rattle.play_event.specs.Code.{code_text}
 use Rattle.play_event.specs.Said.{Said}
-use Rattle.play_event.specs.Streets.{limit_of, is_stud}
-use Rattle.play_event.specs.ValidSetup.{is_fixed}
+use Rattle.play_event.specs.Streets.{limit_of, is_stud_game}
+use Rattle.play_event.specs.ValidSetup.{is_fixed_limit}
 use Rattle.play_event.specs.declared.setup.Setup.{Setup}
 use Rattle.hand_canon.specs.declared.notes.Clock.{Clock}
 use Rattle.hand_canon.specs.declared.notes.Notes.{Notes}
@@ -38,7 +38,9 @@ blinds_written blinds = blinds
 -- the blinds, in a game that has blinds
 abbrev pub blinds_field : Setup → Option Data
 blinds_field setup =
-    if is_stud setup.code then None else Some (numbers (blinds_written (amounts_in setup.blinds)))
+    if is_stud_game setup.code
+    then None
+    else Some (numbers (blinds_written (amounts_in setup.blinds)))
 
 -- a bet size, if the game uses it
 abbrev pub size_field : Bool → ℕ → Option Data
@@ -51,10 +53,10 @@ setup_fields setup =
     ∷ (codes "ante_trimming_status", Some (boolean (not setup.dead_antes)))
     ∷ (codes "antes", Some (numbers (amounts_in setup.antes)))
     ∷ (codes "blinds_or_straddles", blinds_field setup)
-    ∷ (codes "bring_in", size_field (is_stud setup.code) setup.bring_in)
-    ∷ (codes "small_bet", size_field (is_fixed (limit_of setup.code)) setup.small_bet)
-    ∷ (codes "big_bet", size_field (is_fixed (limit_of setup.code)) setup.big_bet)
-    ∷ (codes "min_bet", size_field (not (is_fixed (limit_of setup.code))) setup.min_bet)
+    ∷ (codes "bring_in", size_field (is_stud_game setup.code) setup.bring_in)
+    ∷ (codes "small_bet", size_field (is_fixed_limit (limit_of setup.code)) setup.small_bet)
+    ∷ (codes "big_bet", size_field (is_fixed_limit (limit_of setup.code)) setup.big_bet)
+    ∷ (codes "min_bet", size_field (not (is_fixed_limit (limit_of setup.code))) setup.min_bet)
     ∷ (codes "starting_stacks", Some (numbers (amounts_in setup.stacks)))
     ∷ []
 

@@ -79,8 +79,8 @@ fn make_hand(alloc: Global, index: usize, play: &SoundPlay<'_>) -> Result<Table,
 {
     let play = play.play();
     let mut table = Table::new(alloc);
-    let seats = play.trace.setup.stacks.seats;
-    put_notes(alloc, &mut table, index, seats, &play.hand.notes)?;
+    let players = play.trace.setup.stacks.players();
+    put_notes(alloc, &mut table, index, players, &play.hand.notes)?;
     put_trace(alloc, &mut table, &play.trace)?;
     put_setup(alloc, &mut table, &play.trace.setup)?;
     Ok(table)

@@ -15,7 +15,7 @@ use toml::{Table, Value};
 /// Puts a text under a key.
 pub fn put_text(alloc: Global, table: &mut Table, key: &str, text: &str) -> Result<(), Memory>
     ensures { OnOk result (table_view table.new
-        ≡ members.put key.now (string text.now) (table_view table.old)) }
+        ≡ members.with_member key.now (string text.now) (table_view table.old)) }
 {
     let text = string_from(alloc, text)?;
     put(alloc, table, key, Value::String(text))
@@ -31,7 +31,7 @@ pub fn text(text: String) -> Value
 /// Puts the amounts of a row under a key.
 pub fn put_row(alloc: Global, table: &mut Table, key: &str, row: &SeatRow) -> Result<(), Memory>
     ensures { OnOk result (table_view table.new
-        ≡ members.put key.now (numbers (amounts_in row.now)) (table_view table.old)) }
+        ≡ members.with_member key.now (numbers (amounts_in row.now)) (table_view table.old)) }
 {
     put_amounts(
         alloc,
@@ -53,7 +53,7 @@ pub fn put_amounts(
     requires within { count ≤ length amounts.now }
     requires bounded { (k : ℕ) → slice_index amounts.now k ≤ MOST_AMOUNT }
     ensures { OnOk result (table_view table.new
-        ≡ members.put key.now (numbers (take count amounts.now)) (table_view table.old)) }
+        ≡ members.with_member key.now (numbers (take count amounts.now)) (table_view table.old)) }
 {
     let mut values = Vec::new(alloc);
     for index in 0..count {
@@ -73,7 +73,7 @@ pub fn number(amount: u64) -> Value
 /// Puts a value under a key.
 pub fn put(alloc: Global, table: &mut Table, key: &str, value: Value) -> Result<(), Memory>
     ensures { OnOk result (table_view table.new
-        ≡ members.put key.now (view value) (table_view table.old)) }
+        ≡ members.with_member key.now (view value) (table_view table.old)) }
 {
     let name = string_from(alloc, key)?;
     table.try_insert(name, value)?;

@@ -8,14 +8,14 @@ ghost use Rattle.play_event.specs.Tidy.{IsTidy};
 ghost use Rattle.hand_canon.specs.TraceRows.{core_said};
 ghost use Rattle.phh_actions.specs.Written.{has_words};
 ghost use Rattle.phh_actions.specs.Written as written;
-ghost use Rattle.phh_format.specs.Members.{put_if, with_fields};
+ghost use Rattle.phh_format.specs.Members.{with_fields, with_member_if};
 ghost use Rattle.phh_format.specs.Members as members;
 ghost use Rattle.phh_format.specs.HandFields.{rakes_field, texts, trace_fields};
 
 use crate::members::{put, put_amounts, put_row};
 use card_set::{Memory, TryPush};
 use hand_canon::{Trace, canon};
-use phh_actions::event_text;
+use phh_actions::write_event;
 use play_event::Script;
 use std::alloc::Global;
 use toml::{Table, Value};
@@ -38,7 +38,7 @@ pub fn put_trace(alloc: Global, table: &mut Table, trace: &Trace) -> Result<(), 
 // Puts the rakes of the pots under their key, if one of them is above 0.
 fn put_rakes(alloc: Global, table: &mut Table, trace: &Trace) -> Result<(), Memory>
     requires { IsValid trace.now.setup }
-    ensures { OnOk result (table_view table.new ≡ put_if (codes "_rakes")
+    ensures { OnOk result (table_view table.new ≡ with_member_if (codes "_rakes")
         (rakes_field trace.now.pots.count trace.now.setup.rakes) (table_view table.old)) }
 {
     let rakes = trace.setup.rakes.rakes.as_slice();
@@ -65,13 +65,13 @@ fn takes_some(rakes: &[u64]) -> bool
 // Puts the texts of a script under their key.
 fn put_actions(alloc: Global, table: &mut Table, script: &Script) -> Result<(), Memory>
     requires { list_all has_words (map said_of script.now) ≡ true }
-    ensures { OnOk result (table_view table.new ≡ members.put (codes "actions")
+    ensures { OnOk result (table_view table.new ≡ members.with_member (codes "actions")
         (texts (map written.event_text (map said_of script.now))) (table_view table.old)) }
 {
     let mut values = Vec::new(alloc);
     let mut cursor = script.cursor();
     while let Some(event) = cursor.next() {
-        let text = event_text(alloc, event.kind)?;
+        let text = write_event(alloc, event.kind)?;
         values.try_push(Value::String(text))?;
     }
     put(alloc, table, "actions", Value::Array(values))

@@ -2,7 +2,7 @@
 ghost use Rattle.std.specs.Prelude.{◌≡◌, codes, OnOk};
 ghost use Rattle.toml.specs.View.{table_view};
 ghost use Rattle.play_event.specs.ValidSetup.{IsValid, IsSizeWhere};
-ghost use Rattle.phh_format.specs.Members.{put_if, with_fields};
+ghost use Rattle.phh_format.specs.Members.{with_fields, with_member_if};
 ghost use Rattle.phh_format.specs.HandFields.{blinds_field, setup_fields, size_field};
 
 use crate::members::{number, put, put_amounts, put_row, put_text};
@@ -46,7 +46,7 @@ fn put_size(
 ) -> Result<(), Memory>
     requires { IsSizeWhere used size }
     ensures { OnOk result (table_view table.new
-        ≡ put_if key.now (size_field used size) (table_view table.old)) }
+        ≡ with_member_if key.now (size_field used size) (table_view table.old)) }
 {
     if used {
         put(alloc, table, key, number(size))
@@ -59,7 +59,8 @@ fn put_size(
 // first.
 fn put_blinds(alloc: Global, table: &mut Table, setup: &Setup) -> Result<(), Memory>
     ensures { OnOk result (table_view table.new
-        ≡ put_if (codes "blinds_or_straddles") (blinds_field setup.now) (table_view table.old)) }
+        ≡ with_member_if (codes "blinds_or_straddles") (blinds_field setup.now)
+        (table_view table.old)) }
 {
     if setup.code.is_stud() {
         return Ok(());

@@ -12,7 +12,7 @@ use Rattle.toml.specs.Data.{Data, table, Members, no_members, member, same_key}
 use Rattle.first_fault.specs.Digits.{are_digits}
 use Rattle.phh_reading.specs.Tables.{Entry, AreApart, insert_member, document_after, document_from}
 use Rattle.phh_reading.specs.declared.field_fault.FieldKey.TheVariants as keys
-use Rattle.phh_reading.specs.Fields.{field, key_text}
+use Rattle.phh_reading.specs.Fields.{field_value, key_text}
 use Rattle.phh_reading.specs.Order.{is_multi_hand, is_table, in_order, key_cmp, placed, placed_all, tables_among}
 use Rattle.phh_reading.specs.Order.{Entry as Placed}
 use Rattle.phh_reading.specs.Reading.{hands_of}
@@ -169,11 +169,11 @@ other_at Equal key value found is at none = absurd (not_variant key is (same_byt
 other_at Greater key value found is at none = none
 
 -- a document whose keys are numbers has no variant
-no_variant : (ms : Members) → is_multi_hand ms ≡ true → field keys.Variant ms ≡ None
+no_variant : (ms : Members) → is_multi_hand ms ≡ true → field_value keys.Variant ms ≡ None
 no_variant no_members all = refl
 no_variant (member l w ms) all =
     let parts = and_parts (are_digits l && is_table w) (is_multi_hand ms) all in
-    other_at (slice_cmp nat_cmp (key_text keys.Variant) l) l w (field keys.Variant ms)
+    other_at (slice_cmp nat_cmp (key_text keys.Variant) l) l w (field_value keys.Variant ms)
     (and_parts (are_digits l) (is_table w) parts.0).0 refl (no_variant ms parts.1)
 
 other_key : (k l : List ℕ) → digits_value 10 l < digits_value 10 k → same_key k l ≡ false

@@ -3,7 +3,7 @@ use Rattle.std.specs.Prelude.{◌≡◌, ℕ, ◌+◌, ◌≤◌, Bool, not, con
 use Rattle.toml.specs.Data.{Data}
 use Rattle.first_fault.specs.declared.limits.Quantity.TheVariants as quantities
 use Rattle.play_event.specs.declared.hand_limits.TheConstants.{MOST_MOVES, MOST_OTHER_EVENTS}
-use Rattle.play_event.specs.PlayedScript.{is_move}
+use Rattle.play_event.specs.PlayedScript.{is_move_event}
 use Rattle.first_fault.specs.declared.limits.TheConstants.{MOST_FILE_MOVES}
 use Rattle.play_event.specs.declared.event.Event.{Event}
 use Rattle.play_event.specs.Said.{Said, Numbered, numbered, said_of}
@@ -16,7 +16,7 @@ use Rattle.phh_reading.specs.declared.field_fault.FieldFaultKind.{FieldFaultKind
 use Rattle.phh_reading.specs.declared.field_fault.FieldFaultKind.TheVariants as whats
 use Rattle.phh_reading.specs.declared.field_fault.FieldLocation.{FieldLocation}
 use Rattle.phh_reading.specs.declared.field_fault.FieldFault.{FieldFault}
-use Rattle.phh_reading.specs.Fields.{at_item, wrong, text_said}
+use Rattle.phh_reading.specs.Fields.{item_place, wrong, text_said}
 use Rattle.phh_reading.specs.declared.events.EventCounts.{EventCounts}
 use Rattle.first_fault.specs.Numbers.{saturated}
 
@@ -39,14 +39,14 @@ pub record IsOneMore (before : EventCounts) (is_one : Bool) (after : EventCounts
 -- the counts after the event of an action, if it has one
 abbrev pub IsAfter : EventCounts → Option Event → EventCounts → Type 0
 IsAfter before None after = after ≡ before
-IsAfter before (Some event) after = IsOneMore before (is_move (said_of event)) after
+IsAfter before (Some event) after = IsOneMore before (is_move_event (said_of event)) after
 
 -- the counts after a hand's first events; the file had this number of moves before the hand
 pub record AreCounted (earlier : ℕ) (script : List Event) (counts : EventCounts) : Type 0 where
-  pub moves : counts.moves ≡ count_by is_move (map said_of script)
+  pub moves : counts.moves ≡ count_by is_move_event (map said_of script)
   pub other_events :
-      counts.other_events ≡ count_by (λ event. not (is_move event)) (map said_of script)
-  pub file_moves : counts.file_moves ≡ earlier + count_by is_move (map said_of script)
+      counts.other_events ≡ count_by (λ event. not (is_move_event event)) (map said_of script)
+  pub file_moves : counts.file_moves ≡ earlier + count_by is_move_event (map said_of script)
 
 -- an event, if there is one
 abbrev pub one_event : Option Event → List Event
@@ -85,7 +85,7 @@ unfoldable pub added : EventCounts → ℕ → Option Said
     → Result (List Numbered × EventCounts) FieldFault
 added counts n None = Ok ([], counts)
 added counts n (Some event) =
-    counted counts (at_item keys.Actions n) (is_move event)
+    counted counts (item_place keys.Actions n) (is_move_event event)
     >>= λ next. Ok ((saturated n, event) ∷ [], next)
 
 -- what is wrong with an action
@@ -103,8 +103,8 @@ at_location place (Err fault) = wrong (action_fault fault) place
 unfoldable pub event_said : ℕ → EventCounts → ℕ → Data
     → Result (List Numbered × EventCounts) FieldFault
 event_said seats counts n value = do
-  text ← text_said (at_item keys.Actions n) value
-  event ← at_location (at_item keys.Actions n) (action_said seats text)
+  text ← text_said (item_place keys.Actions n) value
+  event ← at_location (item_place keys.Actions n) (action_said seats text)
   added counts n event
 
 -- the actions in order

@@ -39,12 +39,12 @@ key_text keys.Time = codes "time"
 key_text keys.TimeZone = codes "time_zone"
 
 -- a key itself, and an item of its list, counted from 1
-abbrev pub at_key : FieldKey → FieldLocation
-at_key key = record { key = key; item = 0 }
+abbrev pub key_place : FieldKey → FieldLocation
+key_place key = record { key = key; item = 0 }
 
 -- an item of the list of a key, counted from 1
-abbrev pub at_item : FieldKey → ℕ → FieldLocation
-at_item key n = record { key = key; item = n }
+abbrev pub item_place : FieldKey → ℕ → FieldLocation
+item_place key n = record { key = key; item = n }
 
 -- a place as text: the key, and for an item a space and its number
 abbrev pub field_text : FieldLocation → List ℕ
@@ -66,12 +66,12 @@ abbrev pub or_wrong : {A : Type 0} → FieldFaultKind → FieldLocation → Opti
 or_wrong what place found = or_fault (fault_at what place) found
 
 -- the value at a key, if there is one
-abbrev pub field : FieldKey → Members → Option Data
-field key members = get_member (key_text key) members
+abbrev pub field_value : FieldKey → Members → Option Data
+field_value key members = get_member (key_text key) members
 
 -- the value at a required key
-unfoldable pub required : FieldKey → Members → Result Data FieldFault
-required key members = or_wrong whats.MissingField (at_key key) (field key members)
+unfoldable pub required_value : FieldKey → Members → Result Data FieldFault
+required_value key members = or_wrong whats.MissingField (key_place key) (field_value key members)
 
 -- the text that a value is
 abbrev pub text_of : Data → Option (List ℕ)
@@ -108,8 +108,8 @@ list_said place value = or_wrong whats.WrongType place (list_of value)
 -- a list with one item for each of this many seats
 unfoldable pub items_said : ℕ → FieldKey → Data → Result (List Data) FieldFault
 items_said seats key value = do
-  items ← list_said (at_key key) value
-  if length items == seats then Ok items else wrong whats.ListLength (at_key key)
+  items ← list_said (key_place key) value
+  if length items == seats then Ok items else wrong whats.ListLength (key_place key)
 
 -- the number that a value is
 abbrev pub numeral_of : Data → Numeral

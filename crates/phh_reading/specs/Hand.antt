@@ -7,7 +7,7 @@ use Rattle.play_event.specs.HistoryRules.{history_rules}
 use Rattle.first_fault.specs.Reading.{◌>>=◌, read_if}
 use Rattle.phh_reading.specs.declared.field_fault.FieldKey.TheVariants as keys
 use Rattle.phh_reading.specs.declared.field_fault.FieldFault.{FieldFault}
-use Rattle.phh_reading.specs.Fields.{at_key, field, required, list_said}
+use Rattle.phh_reading.specs.Fields.{key_place, field_value, required_value, list_said}
 use Rattle.phh_reading.specs.Rows.{row_said, rakes_said}
 use Rattle.phh_reading.specs.SetupFields.{setup_said}
 use Rattle.phh_reading.specs.NoteFields.{notes_said}
@@ -20,17 +20,18 @@ finish_stated finish = record { finish = finish; wins = None; pot_total = None; 
 -- the rakes; 0 if the field is missing
 unfoldable pub rakes_at : Members → Result (List ℕ) FieldFault
 rakes_at members =
-    elim (field keys.Rakes members) [ Some value ↦ rakes_said value | None ↦ Ok (replicate 11 0) ]
+    elim (field_value keys.Rakes members)
+    [ Some value ↦ rakes_said value | None ↦ Ok (replicate 11 0) ]
 
 -- the hand at this place of its file, from 0, after this number of moves of the file; and the moves
 -- of the file after it
 unfoldable pub hand_said : ℕ → ℕ → Members → Result (PlainHand × ℕ) FieldFault
 hand_said file_moves place members = do
   setup ← setup_said members
-  actions ← required keys.Actions members >>= list_said (at_key keys.Actions)
+  actions ← required_value keys.Actions members >>= list_said (key_place keys.Actions)
   events ← events_said (length setup.stacks) (counts_after file_moves) actions
   finish ← read_if (row_said (length setup.stacks) MOST_AMOUNT keys.FinishingStacks)
-      (field keys.FinishingStacks members)
+      (field_value keys.FinishingStacks members)
   rakes ← rakes_at members
   notes ← notes_said place (length setup.stacks) members
   let hand : PlainHand =

@@ -18,7 +18,7 @@ use Rattle.phh_reading.specs.declared.field_fault.FieldFault.{FieldFault}
 use Rattle.phh_reading.specs.declared.date.PartialDate.{PartialDate}
 use Rattle.phh_reading.specs.declared.labels.Labels.{Labels}
 use Rattle.phh_reading.specs.declared.seating.Seating.{Seating}
-use Rattle.phh_reading.specs.Fields.{at_key, at_item, wrong, field, text_said, items_said, number_said}
+use Rattle.phh_reading.specs.Fields.{key_place, item_place, wrong, field_value, text_said, items_said, number_said}
 use Rattle.chip_ledger.specs.SeatsSaid.{default_name}
 
 -- who sits where, with plain lists
@@ -60,7 +60,7 @@ label_said default place _ = wrong whats.WrongType place
 -- the names of the players, one per value
 abbrev pub names_from : List Data → Result (List (Option (List ℕ))) FieldFault
 names_from items =
-    each_from (λ n value. text_note_said (default_name n) (at_item keys.Players n) value) 1 items
+    each_from (λ n value. text_note_said (default_name n) (item_place keys.Players n) value) 1 items
 
 -- the names of the players; none if the key is missing
 unfoldable pub names_said : ℕ → Option Data → Result (List (Option (List ℕ))) FieldFault
@@ -69,7 +69,8 @@ names_said count (Some value) = items_said count keys.Players value >>= names_fr
 
 -- the numbers of seats, one per value
 abbrev pub numbers_from : List Data → Result (List ℕ) FieldFault
-numbers_from items = each_from (λ n value. number_said 1 255 (at_item keys.Seats n) value) 1 items
+numbers_from items =
+    each_from (λ n value. number_said 1 255 (item_place keys.Seats n) value) 1 items
 
 -- the numbers that the players have at the table
 unfoldable pub seats_said : ℕ → Data → Result (Option (List ℕ)) FieldFault
@@ -80,24 +81,25 @@ seats_said count value =
 -- how many seats the table has
 unfoldable pub seat_count_said : ℕ → Data → Result (Option ℕ) FieldFault
 seat_count_said count value =
-    number_said 1 255 (at_key keys.SeatCount) value
+    number_said 1 255 (key_place keys.SeatCount) value
     >>= λ number. Ok (if number == count then None else Some number)
 
 -- who sits where
 unfoldable pub seating_said : ℕ → Members → Result PlainSeating FieldFault
 seating_said count members = do
-  names ← names_said count (field keys.Players members)
-  seats ← or_none (seats_said count) (field keys.Seats members)
-  seat_count ← or_none (seat_count_said count) (field keys.SeatCount members)
+  names ← names_said count (field_value keys.Players members)
+  seats ← or_none (seats_said count) (field_value keys.Seats members)
+  seat_count ← or_none (seat_count_said count) (field_value keys.SeatCount members)
   Ok (record { names = names; seats = seats; seat_count = seat_count })
 
 -- where the hand was played; the first number is the hand's place in its file, from 0
 unfoldable pub labels_said : ℕ → Members → Result Labels FieldFault
 labels_said place members = do
-  hand ← or_none (label_said (decimal place) (at_key keys.Hand)) (field keys.Hand members)
-  table ← or_none (label_said [] (at_key keys.Table)) (field keys.Table members)
-  venue ← or_none (text_note_said [] (at_key keys.Venue)) (field keys.Venue members)
-  currency ← or_none (text_note_said [] (at_key keys.Currency)) (field keys.Currency members)
+  hand ← or_none (label_said (decimal place) (key_place keys.Hand)) (field_value keys.Hand members)
+  table ← or_none (label_said [] (key_place keys.Table)) (field_value keys.Table members)
+  venue ← or_none (text_note_said [] (key_place keys.Venue)) (field_value keys.Venue members)
+  currency ←
+      or_none (text_note_said [] (key_place keys.Currency)) (field_value keys.Currency members)
   Ok
       (record {
         hand = hand;
@@ -112,12 +114,12 @@ is_in_calendar _ _ _ = true
 -- when the hand was played
 unfoldable pub day_said : Members → Result PartialDate FieldFault
 day_said members = do
-  year ← read_if (number_said 1 9999 (at_key keys.Year)) (field keys.Year members)
-  month ← read_if (number_said 1 12 (at_key keys.Month)) (field keys.Month members)
-  day ← read_if (number_said 1 31 (at_key keys.Day)) (field keys.Day members)
+  year ← read_if (number_said 1 9999 (key_place keys.Year)) (field_value keys.Year members)
+  month ← read_if (number_said 1 12 (key_place keys.Month)) (field_value keys.Month members)
+  day ← read_if (number_said 1 31 (key_place keys.Day)) (field_value keys.Day members)
   if is_in_calendar year month day
       then Ok (record { year = year; month = month; day = day })
-      else wrong whats.WrongType (at_key keys.Day)
+      else wrong whats.WrongType (key_place keys.Day)
 
 -- the local time of a date-time, if it has no date and no zone
 abbrev pub time_alone : Option Date → Option Time → Option Offset → Option Time
@@ -147,16 +149,16 @@ is_clock clock =
 
 -- the time of day of a local time
 unfoldable pub clock_said : Option Time → Result Clock FieldFault
-clock_said None = wrong whats.WrongType (at_key keys.Time)
+clock_said None = wrong whats.WrongType (key_place keys.Time)
 clock_said (Some time) =
     if is_clock (clock_of time)
     then Ok (clock_of time)
-    else wrong whats.WrongType (at_key keys.Time)
+    else wrong whats.WrongType (key_place keys.Time)
 
 -- the time of day: a local time
 unfoldable pub time_said : Data → Result Clock FieldFault
 time_said (datetime said) = clock_said (time_alone said.date said.time said.offset)
-time_said _ = wrong whats.WrongType (at_key keys.Time)
+time_said _ = wrong whats.WrongType (key_place keys.Time)
 
 -- the notes made of their parts
 abbrev pub notes_from : PlainSeating → Labels → PartialDate → Option Clock → Option (List ℕ)
@@ -181,6 +183,6 @@ notes_said place count members = do
   seating ← seating_said count members
   labels ← labels_said place members
   day ← day_said members
-  time ← read_if time_said (field keys.Time members)
-  zone ← or_none (text_note_said [] (at_key keys.TimeZone)) (field keys.TimeZone members)
+  time ← read_if time_said (field_value keys.Time members)
+  zone ← or_none (text_note_said [] (key_place keys.TimeZone)) (field_value keys.TimeZone members)
   Ok (notes_from seating labels day time zone)

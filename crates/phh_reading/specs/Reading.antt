@@ -11,7 +11,7 @@ use Rattle.phh_reading.specs.declared.field_fault.FieldKey.TheVariants as keys
 use Rattle.phh_reading.specs.declared.field_fault.FieldFaultKind.{FieldFaultKind}
 use Rattle.phh_reading.specs.declared.field_fault.FieldFaultKind.TheVariants as whats
 use Rattle.phh_reading.specs.declared.field_fault.FieldFault.{FieldFault}
-use Rattle.phh_reading.specs.Fields.{at_key, fault_at, field, field_text}
+use Rattle.phh_reading.specs.Fields.{fault_at, field_text, field_value, key_place}
 use Rattle.phh_reading.specs.declared.fault.PhhFault.{PhhFault}
 use Rattle.phh_reading.specs.declared.fault.PhhFault.TheVariants as faults
 use Rattle.phh_reading.specs.Hand.{hand_said}
@@ -28,27 +28,27 @@ abbrev pub wrong_in : ℕ → FieldFault → Wrong
 wrong_in number fault = InHand number (field_text fault.place) fault.what
 
 -- what is read of the hand with this number
-abbrev pub in_hand : {A : Type 0} → ℕ → Result A FieldFault → Result A Wrong
-in_hand number (Ok x) = Ok x
-in_hand number (Err fault) = Err (wrong_in number fault)
+abbrev pub result_in_hand : {A : Type 0} → ℕ → Result A FieldFault → Result A Wrong
+result_in_hand number (Ok x) = Ok x
+result_in_hand number (Err fault) = Err (wrong_in number fault)
 
 -- a fault at a hand's variant
 abbrev pub at_variant : {A : Type 0} → ℕ → FieldFaultKind → Result A Wrong
-at_variant number what = Err (wrong_in number (fault_at what (at_key keys.Variant)))
+at_variant number what = Err (wrong_in number (fault_at what (key_place keys.Variant)))
 
 -- the hand with this number, from 1, after this number of moves of the file; and the moves of the
 -- file after it
 unfoldable pub numbered_hand : ℕ → ℕ → Members → Result (List PlainHand × ℕ) Wrong
 numbered_hand file_moves number members =
     if nat_lt MOST_HANDS number then at_variant number (whats.TooMany quantities.Hands)
-    else (in_hand number (hand_said file_moves (number - 1) members)
+    else (result_in_hand number (hand_said file_moves (number - 1) members)
     >>= λ found. Ok (found.0 ∷ [], found.1))
 
 -- the hands of a document: one if it has a variant, else those under its numbers; none if it is
 -- empty
 unfoldable pub hands_of : Members → Option (List Members)
 hands_of members =
-    if is_some (field keys.Variant members) then Some (members ∷ [])
+    if is_some (field_value keys.Variant members) then Some (members ∷ [])
     else if is_multi_hand members then Some (in_order members)
     else None
 

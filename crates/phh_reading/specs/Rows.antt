@@ -10,12 +10,12 @@ use Rattle.phh_reading.specs.declared.field_fault.FieldKey.TheVariants as keys
 use Rattle.phh_reading.specs.declared.field_fault.FieldFaultKind.TheVariants as whats
 use Rattle.phh_reading.specs.declared.field_fault.FieldLocation.{FieldLocation}
 use Rattle.phh_reading.specs.declared.field_fault.FieldFault.{FieldFault}
-use Rattle.phh_reading.specs.Fields.{at_key, at_item, wrong, list_said, items_said, amount_said}
+use Rattle.phh_reading.specs.Fields.{key_place, item_place, wrong, list_said, items_said, amount_said}
 
 -- amounts from least to most
 abbrev pub amounts_said : ℕ → ℕ → FieldKey → List Data → Result (List ℕ) FieldFault
 amounts_said least most key items =
-    each_from (λ n value. amount_said least most (at_item key n) value) 1 items
+    each_from (λ n value. amount_said least most (item_place key n) value) 1 items
 
 -- one amount of at most this many chips for each of this many seats
 unfoldable pub row_said : ℕ → ℕ → FieldKey → Data → Result (List ℕ) FieldFault
@@ -24,10 +24,10 @@ row_said seats most key value = items_said seats key value >>= amounts_said 0 mo
 -- the starting stacks of two seats up to the most of the game
 unfoldable pub stacks_said : ℕ → Data → Result (List ℕ) FieldFault
 stacks_said most_seats value = do
-  items ← list_said (at_key keys.StartingStacks) value
+  items ← list_said (key_place keys.StartingStacks) value
   if nat_le 2 (length items) && nat_le (length items) most_seats
       then amounts_said 1 MOST_CHIPS keys.StartingStacks items
-      else wrong whats.SeatCount (at_key keys.StartingStacks)
+      else wrong whats.SeatCount (key_place keys.StartingStacks)
 
 -- the ante of a seat with this stack: the smaller of the stated ante and the stack
 unfoldable pub ante_said : ℕ → FieldLocation → Data → Result ℕ FieldFault
@@ -41,7 +41,7 @@ pub record AreHeld (stacks antes : SeatRow) : Type 0 where
 -- the antes of seats with these stacks
 abbrev pub antes_from : List ℕ → List Data → Result (List ℕ) FieldFault
 antes_from stacks items =
-    each_from (λ n value. ante_said (slice_index stacks (n - 1)) (at_item keys.Antes n) value) 1
+    each_from (λ n value. ante_said (slice_index stacks (n - 1)) (item_place keys.Antes n) value) 1
     items
 
 -- the antes of the seats
@@ -62,5 +62,7 @@ rakes_from items =
 -- the rakes of at most eleven pots
 unfoldable pub rakes_said : Data → Result (List ℕ) FieldFault
 rakes_said value = do
-  items ← list_said (at_key keys.Rakes) value
-  if nat_le (length items) 11 then rakes_from items else wrong whats.ListLength (at_key keys.Rakes)
+  items ← list_said (key_place keys.Rakes) value
+  if nat_le (length items) 11
+      then rakes_from items
+      else wrong whats.ListLength (key_place keys.Rakes)

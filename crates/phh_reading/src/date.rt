@@ -4,7 +4,7 @@ ghost use Rattle.toml.specs.View.{table_view, view};
 ghost use Rattle.hand_canon.specs.AllowedNotes.{IsTime, IsWithin};
 ghost use Rattle.first_fault.specs.Reading.{Gives, read_if};
 ghost use Rattle.phh_reading.specs.declared.field_fault.FieldKey.TheVariants as keys;
-ghost use Rattle.phh_reading.specs.Fields.{at_key, number_said};
+ghost use Rattle.phh_reading.specs.Fields.{key_place, number_said};
 ghost use Rattle.phh_reading.specs.Fields as fields;
 ghost use Rattle.phh_reading.specs.NoteFields.{day_said, time_said};
 ghost use Rattle.phh_reading.specs.NoteFields as note_fields;
@@ -38,7 +38,7 @@ pub fn read_day(table: &Table) -> Result<PartialDate, ReadError<FieldFault>>
     let month = read_part(table, FieldKey::Month, 12)?;
     let day = read_part(table, FieldKey::Day, 31)?;
     let date = PartialDate { year, month, day };
-    if is_in_calendar(date) {
+    if is_calendar_date(date) {
         Ok(date)
     } else {
         Err(field_fault_at(
@@ -51,8 +51,8 @@ pub fn read_day(table: &Table) -> Result<PartialDate, ReadError<FieldFault>>
 // The year at its key, if there is one.
 fn read_year(table: &Table) -> Result<Option<u16>, ReadError<FieldFault>>
     ensures said { Gives (λ year. year) result
-        (read_if (number_said 1 9999 (at_key keys.Year))
-        (fields.field keys.Year (table_view table.now))) }
+        (read_if (number_said 1 9999 (key_place keys.Year))
+        (fields.field_value keys.Year (table_view table.now))) }
     ensures within { IfOk result (λ year. IfSome year (IsWithin 1 9999)) }
 {
     match field(table, FieldKey::Year) {
@@ -67,7 +67,8 @@ fn read_year(table: &Table) -> Result<Option<u16>, ReadError<FieldFault>>
 // The number from 1 to `most` at a key, if there is one.
 fn read_part(table: &Table, key: FieldKey, most: u8) -> Result<Option<u8>, ReadError<FieldFault>>
     ensures said { Gives (λ part. part) result
-        (read_if (number_said 1 most (at_key key)) (fields.field key (table_view table.now))) }
+        (read_if (number_said 1 most (key_place key))
+        (fields.field_value key (table_view table.now))) }
     ensures within { IfOk result (λ part. IfSome part (IsWithin 1 most)) }
 {
     match field(table, key) {
@@ -80,7 +81,7 @@ fn read_part(table: &Table, key: FieldKey, most: u8) -> Result<Option<u8>, ReadE
 }
 
 // Whether year, month and day are a date of the calendar, if all three are given.
-fn is_in_calendar(date: PartialDate) -> bool
+fn is_calendar_date(date: PartialDate) -> bool
     requires year { IfSome date.year (IsWithin 1 9999) }
     requires month { IfSome date.month (IsWithin 1 12) }
     requires day { IfSome date.day (IsWithin 1 31) }
@@ -95,7 +96,7 @@ fn is_in_calendar(date: PartialDate) -> bool
 /// The time of day, if it is given.
 pub fn read_time_at(table: &Table) -> Result<Option<Clock>, ReadError<FieldFault>>
     ensures said { Gives (λ clock. clock) result
-        (read_if time_said (fields.field keys.Time (table_view table.now))) }
+        (read_if time_said (fields.field_value keys.Time (table_view table.now))) }
     ensures allowed { IfOk result (λ clock. IfSome clock IsTime) }
 {
     match field(table, FieldKey::Time) {
@@ -111,9 +112,9 @@ fn read_time(value: &Value) -> Result<Clock, ReadError<FieldFault>>
     ensures allowed { IfOk result IsTime }
 {
     if let Value::Datetime(said) = value {
-        if let Some(time) = time_alone(said) {
-            let clock = clock_of(time);
-            if is_clock(clock) {
+        if let Some(time) = to_local_time(said) {
+            let clock = to_clock(time);
+            if is_valid_time(clock) {
                 return Ok(clock);
             }
         }
@@ -125,7 +126,7 @@ fn read_time(value: &Value) -> Result<Clock, ReadError<FieldFault>>
 }
 
 // A time of day; a missing second or fraction is 0.
-fn clock_of(time: Time) -> Clock
+fn to_clock(time: Time) -> Clock
     ensures { result ≡ note_fields.clock_of time }
 {
     Clock {
@@ -143,14 +144,14 @@ fn clock_of(time: Time) -> Clock
 }
 
 // Whether it is a valid time of day.
-fn is_clock(clock: Clock) -> bool
+fn is_valid_time(clock: Clock) -> bool
     ensures { result ≡ note_fields.is_clock clock }
 {
     (clock.hour <= 23 && clock.minute <= 59) && (clock.second <= 59 && clock.nano <= 999_999_999)
 }
 
 // The local time of a date-time, if it has no date and no zone.
-fn time_alone(said: &Datetime) -> Option<Time>
+fn to_local_time(said: &Datetime) -> Option<Time>
     ensures { result ≡ note_fields.time_alone said.now.date said.now.time said.now.offset }
 {
     match (said.date, said.time, said.offset) {

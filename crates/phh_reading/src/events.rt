@@ -90,10 +90,7 @@ fn read_kind(
     ensures { Gives (option_map kind_said) result
         (at_location place (action_said players.number text.now)) }
 {
-    match read_action(text, players) {
-        Ok(kind) => Ok(kind),
-        Err(fault) => Err(field_fault_at(FieldFaultKind::from(fault), place)),
-    }
+    read_action(text, players).map_err(|fault| field_fault_at(FieldFaultKind::from(fault), place))
 }
 
 // The counts after one more event, each within its limit.

@@ -118,14 +118,14 @@ pub struct FieldLocation {
 impl FieldLocation {
     /// The key itself.
     pub fn at_key(key: FieldKey) -> Self
-        ensures { result ≡ fields.at_key key }
+        ensures { result ≡ fields.key_place key }
     {
         FieldLocation { key, item: 0 }
     }
 
     /// The item with this number, from 1.
     pub fn at_item(key: FieldKey, item: u64) -> Self
-        ensures { result ≡ fields.at_item key item }
+        ensures { result ≡ fields.item_place key item }
     {
         FieldLocation { key, item }
     }

@@ -4,7 +4,7 @@ ghost use Rattle.std.specs.Prelude.{◌≡◌, ◌≤◌, map, [], ◌∷◌, If
 ghost use Rattle.toml.specs.View.{table_view};
 ghost use Rattle.first_fault.specs.declared.limits.TheConstants.{MOST_FILE_MOVES, MOST_HANDS};
 ghost use Rattle.phh_reading.specs.declared.field_fault.FieldKey.TheVariants as keys;
-ghost use Rattle.phh_reading.specs.Fields.{at_key, fault_at};
+ghost use Rattle.phh_reading.specs.Fields.{fault_at, key_place};
 ghost use Rattle.phh_reading.specs.Reading.{ReadsAs, hands_of, hands_said, numbered_hand, records_said, those_said, wrong_in, wrong_of};
 ghost use Rattle.hand_canon.specs.Histories.{AreHistories, IsNextHand};
 ghost use Rattle.hand_canon.specs.PlainHands.{plain};
@@ -12,7 +12,7 @@ ghost use Rattle.hand_canon.specs.PlainHands.{plain};
 use crate::fault::PhhFault;
 use crate::field_fault::{FieldFault, FieldFaultKind, FieldKey, FieldLocation};
 use crate::hand::read_hand;
-use crate::order::{is_multi_hand, tables_in_order};
+use crate::order::{has_numbered_tables, tables_in_order};
 use crate::values::field;
 use first_fault::{MOST_HANDS, Quantity, ReadError};
 use hand_canon::{Record, Records};
@@ -28,8 +28,8 @@ pub fn read_hands(alloc: Global, table: &Table) -> Result<Records, PhhFault>
     if field(table, FieldKey::Variant).is_some() {
         return read_records(alloc, &[table]);
     }
-    if !is_multi_hand(table) {
-        return Err(at_variant(alloc, 1, FieldFaultKind::MissingField));
+    if !has_numbered_tables(table) {
+        return Err(new_variant_fault(alloc, 1, FieldFaultKind::MissingField));
     }
     let tables = tables_in_order(alloc, table)?;
     read_records(alloc, tables.as_slice())
@@ -80,7 +80,7 @@ pub fn read_numbered(
     if number as usize > MOST_HANDS {
         let quantity = Quantity::Hands;
         let what = FieldFaultKind::TooMany { quantity };
-        return Err(at_variant(alloc, number, what));
+        return Err(new_variant_fault(alloc, number, what));
     }
     match read_hand(alloc, table, number - 1, file_moves) {
         Ok(found) => Ok(found),
@@ -90,9 +90,9 @@ pub fn read_numbered(
 }
 
 // What is wrong at a hand's variant.
-fn at_variant(alloc: Global, hand: u32, what: FieldFaultKind) -> PhhFault
+fn new_variant_fault(alloc: Global, hand: u32, what: FieldFaultKind) -> PhhFault
     ensures { IfSome (wrong_of result) (λ wrong.
-        wrong ≡ wrong_in hand (fault_at what (at_key keys.Variant))) }
+        wrong ≡ wrong_in hand (fault_at what (key_place keys.Variant))) }
 {
     let place = FieldLocation::at_key(FieldKey::Variant);
     PhhFault::in_hand(alloc, hand, FieldFault { what, place })

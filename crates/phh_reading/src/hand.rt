@@ -80,7 +80,7 @@ fn read_finish(
 ) -> Result<Option<SeatRow>, ReadError<FieldFault>>
     ensures said { Gives (option_map amounts_in) result
         (read_if (row_said players.number MOST_AMOUNT keys.FinishingStacks)
-        (fields.field keys.FinishingStacks (table_view table.now))) }
+        (fields.field_value keys.FinishingStacks (table_view table.now))) }
     ensures seats { IfOk result (λ finish. ForSome finish (λ row. row.seats ≡ players.number)) }
 {
     match field(table, FieldKey::FinishingStacks) {

@@ -5,7 +5,7 @@ ghost use Rattle.toml.specs.View.{table_view};
 ghost use Rattle.hand_canon.specs.AllowedNotes.{AreNoteTexts, IsNoteText};
 ghost use Rattle.first_fault.specs.Reading.{Gives, or_none};
 ghost use Rattle.phh_reading.specs.declared.field_fault.FieldKey.TheVariants as keys;
-ghost use Rattle.phh_reading.specs.Fields.{at_key};
+ghost use Rattle.phh_reading.specs.Fields.{key_place};
 ghost use Rattle.phh_reading.specs.Fields as fields;
 ghost use Rattle.phh_reading.specs.NoteFields.{label_said, labels_said, text_note_said};
 
@@ -54,8 +54,8 @@ pub fn read_labels(
 // the number of the place is made into text only if there is a name to compare it with.
 fn hand_at(alloc: Global, table: &Table, place: u32) -> Result<Option<Text>, ReadError<FieldFault>>
     ensures said { Gives (λ note. note) result
-        (or_none (label_said (decimal place) (at_key keys.Hand))
-        (fields.field keys.Hand (table_view table.now))) }
+        (or_none (label_said (decimal place) (key_place keys.Hand))
+        (fields.field_value keys.Hand (table_view table.now))) }
     ensures allowed { IfOk result (λ note. IfSome note IsNoteText) }
 {
     match field(table, FieldKey::Hand) {
@@ -79,7 +79,7 @@ fn label_at(
     key: FieldKey,
 ) -> Result<Option<Text>, ReadError<FieldFault>>
     ensures said { Gives (λ note. note) result
-        (or_none (label_said [] (at_key key)) (fields.field key (table_view table.now))) }
+        (or_none (label_said [] (key_place key)) (fields.field_value key (table_view table.now))) }
     ensures allowed { IfOk result (λ note. IfSome note IsNoteText) }
 {
     match field(table, key) {
@@ -95,7 +95,8 @@ pub fn text_at(
     key: FieldKey,
 ) -> Result<Option<Text>, ReadError<FieldFault>>
     ensures said { Gives (λ note. note) result
-        (or_none (text_note_said [] (at_key key)) (fields.field key (table_view table.now))) }
+        (or_none (text_note_said [] (key_place key))
+        (fields.field_value key (table_view table.now))) }
     ensures allowed { IfOk result (λ note. IfSome note IsNoteText) }
 {
     match field(table, key) {

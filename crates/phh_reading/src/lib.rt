@@ -14,6 +14,7 @@ mod laws;
 pub mod notes;
 mod order;
 mod parsing;
+pub mod player_values;
 mod reading;
 pub mod rows;
 pub mod seating;

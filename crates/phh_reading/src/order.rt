@@ -9,7 +9,7 @@ ghost use Rattle.phh_reading.specs.Order as order;
 ghost use Rattle.phh_reading.specs.Stripped.{number_digits};
 
 use card_set::{Memory, TryInsert, TryPush};
-use first_fault::are_digits;
+use first_fault::is_all_digits;
 use std::alloc::Global;
 use std::collections::BTreeMap;
 use toml::{Table, Value};
@@ -19,11 +19,11 @@ use toml::{Table, Value};
 type NumberedTables<'a> = BTreeMap<(usize, &'a [u8], &'a [u8]), &'a Value>;
 
 /// Whether each key is a number and each value a table.
-pub fn is_multi_hand(table: &Table) -> bool
+pub fn has_numbered_tables(table: &Table) -> bool
     ensures { result ≡ order.is_multi_hand (table_view table.now) }
 {
     for (key, value) in table.iter() {
-        if !(is_number(key.as_str()) && is_table(value)) {
+        if !(is_number(key.as_str()) && holds_table(value)) {
             return false;
         }
     }
@@ -34,11 +34,11 @@ pub fn is_multi_hand(table: &Table) -> bool
 fn is_number(key: &str) -> bool
     ensures { result ≡ digits.are_digits key.now }
 {
-    are_digits(key.as_bytes())
+    is_all_digits(key.as_bytes())
 }
 
 // Whether the value is a table.
-fn is_table(value: &Value) -> bool
+fn holds_table(value: &Value) -> bool
     ensures { result ≡ order.is_table (view value.now) }
 {
     match value {

@@ -11,6 +11,7 @@ ghost use Rattle.phh_reading.specs.Rows as rows;
 ghost use Rattle.chip_ledger.specs.SeatRow.{amounts_in};
 
 use crate::field_fault::{FieldFault, FieldFaultKind, FieldKey, FieldLocation};
+use crate::player_values::PlayerValues;
 use crate::values::{field_fault_at, read_amount, read_items, read_list};
 use chip_ledger::{MOST_AMOUNT, MOST_CHIPS, PlayerCount, RakeRow, SeatRow};
 use first_fault::{ReadError, has_count};
@@ -29,43 +30,45 @@ pub fn read_row(
     ensures seats { IfOk result (λ row. row.seats ≡ players.number) }
     ensures most { IfOk result (λ row. (k : ℕ) → slice_index row.amounts k ≤ most) }
 {
-    let values = read_items(value, players.number, key)?;
-    read_amounts(values, 0, most, key)
+    let values = read_items(value, players, key)?;
+    read_amounts(&values, 0, most, key)
 }
 
-/// The starting stacks of 2 to `most_seats` seats, each of at least one chip.
+/// The starting stacks of at most this number of players, each of at least one chip.
 #[tactic(auto, unfolding(crate::specs::Rows::stacks_said))]
-pub fn read_stacks(value: &Value, most_seats: u8) -> Result<SeatRow, ReadError<FieldFault>>
-    requires { most_seats ≤ 10 }
-    ensures amounts { Gives amounts_in result (stacks_said most_seats (view value.now)) }
-    ensures seats { IfOk result (λ row. row.seats ≤ most_seats) }
+pub fn read_stacks(value: &Value, most: PlayerCount) -> Result<SeatRow, ReadError<FieldFault>>
+    ensures amounts { Gives amounts_in result (stacks_said most.number (view value.now)) }
+    ensures seats { IfOk result (λ row. row.seats ≤ most.number) }
     ensures sizes { IfOk result (λ row. (k : ℕ)
         → k < row.seats → IsSize (slice_index row.amounts k)) }
 {
     let place = FieldLocation::at_key(FieldKey::StartingStacks);
     let values = read_list(value, place)?;
-    if !has_count(values, 2, most_seats as usize) {
+    if !has_count(values, 2, most.number as usize) {
         return Err(field_fault_at(FieldFaultKind::SeatCount, place));
     }
-    read_amounts(values, 1, MOST_CHIPS, FieldKey::StartingStacks)
+    let values = PlayerValues {
+        values: values.as_slice(),
+    };
+    read_amounts(&values, 1, MOST_CHIPS, FieldKey::StartingStacks)
 }
 
-// A row of two to ten amounts.
+// An amount for each player.
 fn read_amounts(
-    values: &[Value],
+    players: &PlayerValues,
     least: u64,
     most: u64,
     key: FieldKey,
 ) -> Result<SeatRow, ReadError<FieldFault>>
-    requires some { 2 ≤ length values.now }
-    requires few { length values.now ≤ 10 }
-    requires bounded { most ≤ MOST_AMOUNT }
-    ensures amounts { Gives amounts_in result (amounts_said least most key (map view values.now)) }
-    ensures seats { IfOk result (λ row. row.seats ≡ length values.now) }
+    requires { most ≤ MOST_AMOUNT }
+    ensures amounts { Gives amounts_in result
+        (amounts_said least most key (map view players.now.values.now)) }
+    ensures seats { IfOk result (λ row. row.seats ≡ length players.now.values.now) }
     ensures least { IfOk result (λ row. (k : ℕ)
-        → k < length values.now → least ≤ slice_index row.amounts k) }
+        → k < length players.now.values.now → least ≤ slice_index row.amounts k) }
     ensures most { IfOk result (λ row. (k : ℕ) → slice_index row.amounts k ≤ most) }
 {
+    let values = players.values;
     let mut amounts = [0; 10];
     for (index, value) in values.iter().enumerate() {
         let place = FieldLocation {
@@ -87,8 +90,8 @@ pub fn read_antes(value: &Value, stacks: &SeatRow) -> Result<SeatRow, ReadError<
         (antes_said (amounts_in stacks.now) (view value.now)) }
     ensures held { IfOk result (AreHeld stacks.now) }
 {
-    let values = read_items(value, stacks.seats, FieldKey::Antes)?;
-    fill_antes(values, stacks)
+    let values = read_items(value, stacks.players(), FieldKey::Antes)?;
+    fill_antes(values.values, stacks)
 }
 
 // The antes of seats with these stacks.
@@ -123,7 +126,7 @@ fn read_ante(value: &Value, stack: u64, place: FieldLocation) -> Result<u64, Rea
 }
 
 /// The blinds in the order of seats: with two seats, the first seat has the greater one.
-pub fn heads_up_swapped(mut blinds: SeatRow) -> SeatRow
+pub fn swap_heads_up(mut blinds: SeatRow) -> SeatRow
     ensures amounts { amounts_in result ≡ rows.heads_up_swapped (amounts_in blinds) }
     ensures seats { result.seats ≡ blinds.seats }
     ensures most { (most : ℕ) → ((k : ℕ) → slice_index blinds.amounts k ≤ most)

@@ -4,18 +4,19 @@ ghost use Rattle.toml.specs.View.{table_view, view};
 ghost use Rattle.hand_canon.specs.AllowedNotes.{AreSeatNumbers, IsName, IsSeatCount, IsWithin};
 ghost use Rattle.first_fault.specs.Reading.{Gives, or_none};
 ghost use Rattle.phh_reading.specs.declared.field_fault.FieldKey.TheVariants as keys;
-ghost use Rattle.phh_reading.specs.Fields.{at_item};
+ghost use Rattle.phh_reading.specs.Fields.{item_place};
 ghost use Rattle.phh_reading.specs.Fields as fields;
 ghost use Rattle.phh_reading.specs.NoteFields.{AreNames, names_from, names_said, numbers_from, plain_seating, seat_count_said, seating_said, seats_said, text_note_said};
 ghost use Rattle.chip_ledger.specs.SeatsSaid.{default_name};
 
 use crate::field_fault::{FieldFault, FieldKey, FieldLocation};
+use crate::player_values::PlayerValues;
 use crate::texts::read_text_note;
 use crate::values::{field, read_items, read_number};
 use card_set::try_format;
 use chip_ledger::PlayerCount;
 use first_fault::{ReadError, Text};
-use hand_canon::non_default_seats;
+use hand_canon::omit_default_seats;
 use std::alloc::Global;
 use toml::{Table, Value};
 
@@ -60,25 +61,28 @@ fn read_names(
     players: PlayerCount,
 ) -> Result<[Option<Text>; 10], ReadError<FieldFault>>
     ensures said { Gives (take players.number) result
-        (names_said players.number (fields.field keys.Players (table_view table.now))) }
+        (names_said players.number (fields.field_value keys.Players (table_view table.now))) }
     ensures allowed { IfOk result (AreNames players.number) }
 {
     match field(table, FieldKey::Players) {
         None => Ok(no_names()),
         Some(value) => {
-            let values = read_items(value, players.number, FieldKey::Players)?;
-            fill_names(alloc, values)
+            let values = read_items(value, players, FieldKey::Players)?;
+            fill_names(alloc, &values)
         }
     }
 }
 
-// The names of as many players as there are values.
-fn fill_names(alloc: Global, values: &[Value]) -> Result<[Option<Text>; 10], ReadError<FieldFault>>
-    requires { length values.now ≤ 10 }
-    ensures said { Gives (take (length values.now)) result
-        (names_from (map view values.now)) }
-    ensures allowed { IfOk result (AreNames (length values.now)) }
+// The names of players.
+fn fill_names(
+    alloc: Global,
+    players: &PlayerValues,
+) -> Result<[Option<Text>; 10], ReadError<FieldFault>>
+    ensures said { Gives (take (length players.now.values.now)) result
+        (names_from (map view players.now.values.now)) }
+    ensures allowed { IfOk result (AreNames (length players.now.values.now)) }
 {
+    let values = players.values;
     let mut names = no_names();
     for (index, value) in values.iter().enumerate() {
         names[index] = read_name(alloc, value, index as u8 + 1)?;
@@ -98,7 +102,7 @@ fn no_names() -> [Option<Text>; 10]
 // The name of a seat's player.
 fn read_name(alloc: Global, value: &Value, seat: u8) -> Result<Option<Text>, ReadError<FieldFault>>
     ensures said { Gives (λ name. name) result
-        (text_note_said (default_name seat) (at_item keys.Players seat) (view value.now)) }
+        (text_note_said (default_name seat) (item_place keys.Players seat) (view value.now)) }
     ensures allowed { IfOk result (λ name. IfSome name (IsName seat)) }
 {
     let place = FieldLocation {
@@ -116,27 +120,28 @@ fn read_seats(
     players: PlayerCount,
 ) -> Result<Option<[u8; 10]>, ReadError<FieldFault>>
     ensures said { Gives (option_map (take players.number)) result
-        (or_none (seats_said players.number) (fields.field keys.Seats (table_view table.now))) }
+        (or_none (seats_said players.number)
+        (fields.field_value keys.Seats (table_view table.now))) }
     ensures allowed { IfOk result (λ numbers. IfSome numbers (AreSeatNumbers players.number)) }
 {
     let Some(value) = field(table, FieldKey::Seats) else {
         return Ok(None);
     };
-    let values = read_items(value, players.number, FieldKey::Seats)?;
-    let numbers = fill_numbers(values)?;
-    Ok(non_default_seats(numbers, players.number as usize))
+    let values = read_items(value, players, FieldKey::Seats)?;
+    let numbers = fill_numbers(&values)?;
+    Ok(omit_default_seats(numbers, players.number as usize))
 }
 
-// The numbers of as many seats as there are values.
-fn fill_numbers(values: &[Value]) -> Result<[u8; 10], ReadError<FieldFault>>
-    requires { length values.now ≤ 10 }
-    ensures said { Gives (take (length values.now)) result
-        (numbers_from (map view values.now)) }
-    ensures each { IfOk result (λ numbers. (k : ℕ) → k < length values.now
+// The numbers of the players' seats.
+fn fill_numbers(players: &PlayerValues) -> Result<[u8; 10], ReadError<FieldFault>>
+    ensures said { Gives (take (length players.now.values.now)) result
+        (numbers_from (map view players.now.values.now)) }
+    ensures each { IfOk result (λ numbers. (k : ℕ) → k < length players.now.values.now
         → IsWithin 1 255 (slice_index numbers k)) }
-    ensures no_more { IfOk result (λ numbers. (k : ℕ) → length values.now ≤ k
+    ensures no_more { IfOk result (λ numbers. (k : ℕ) → length players.now.values.now ≤ k
         → slice_index numbers k ≡ 0) }
 {
+    let values = players.values;
     let mut numbers = [0; 10];
     for (index, value) in values.iter().enumerate() {
         let place = FieldLocation {
@@ -153,7 +158,7 @@ fn fill_numbers(values: &[Value]) -> Result<[u8; 10], ReadError<FieldFault>>
 fn read_seat_count(table: &Table, players: PlayerCount) -> Result<Option<u8>, ReadError<FieldFault>>
     ensures said { Gives (λ count. count) result
         (or_none (seat_count_said players.number)
-        (fields.field keys.SeatCount (table_view table.now))) }
+        (fields.field_value keys.SeatCount (table_view table.now))) }
     ensures allowed { IfOk result (λ count. IfSome count (IsSeatCount players.number)) }
 {
     let Some(value) = field(table, FieldKey::SeatCount) else {

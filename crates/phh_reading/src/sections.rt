@@ -7,12 +7,12 @@ use toml::value::Array;
 use toml::{Table, Value};
 
 /// Whether some value is a table, or an array that has one.
-pub fn has_section(table: &Table) -> bool
+pub fn contains_section(table: &Table) -> bool
     ensures { result ≡ tables.has_section (table_view table.now) }
 {
     for (key, value) in table.iter() {
         let _key = key;
-        if is_section(value) {
+        if is_or_contains_table(value) {
             return true;
         }
     }
@@ -20,21 +20,21 @@ pub fn has_section(table: &Table) -> bool
 }
 
 // Whether the value is a table, or an array that has one.
-fn is_section(value: &Value) -> bool
+fn is_or_contains_table(value: &Value) -> bool
     ensures { result ≡ tables.is_section (view value.now) }
 {
     match value {
-        Value::Array(items) => has_table(items),
-        _ => is_table(value),
+        Value::Array(items) => contains_table(items),
+        _ => holds_table(value),
     }
 }
 
 // Whether some item is a table.
-fn has_table(items: &Array) -> bool
+fn contains_table(items: &Array) -> bool
     ensures { result ≡ tables.has_table (array_view items.now) }
 {
     for item in items.iter() {
-        if is_table(item) {
+        if holds_table(item) {
             return true;
         }
     }
@@ -42,7 +42,7 @@ fn has_table(items: &Array) -> bool
 }
 
 // Whether the value is a table.
-fn is_table(value: &Value) -> bool
+fn holds_table(value: &Value) -> bool
     ensures { result ≡ tables.is_table (view value.now) }
 {
     match value {

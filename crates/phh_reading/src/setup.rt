@@ -5,7 +5,7 @@ ghost use Rattle.toml.specs.View.{table_view, view};
 ghost use Rattle.chip_ledger.specs.Seat.{seats_of};
 ghost use Rattle.chip_ledger.specs.SeatRow.{amount_of, amounts_in};
 ghost use Rattle.chip_ledger.specs.declared.numbers.TheConstants.{MOST_CHIPS};
-ghost use Rattle.play_event.specs.Streets.{is_stud};
+ghost use Rattle.play_event.specs.Streets.{is_stud_game};
 ghost use Rattle.play_event.specs.ValidSetup.{IsValid};
 ghost use Rattle.first_fault.specs.Reading.{Gives};
 ghost use Rattle.hand_canon.specs.PlainHands.{plain_setup};
@@ -13,7 +13,7 @@ ghost use Rattle.phh_reading.specs.SetupFields.{blinds_said, game_named, setup_s
 ghost use Rattle.phh_reading.specs.SetupFields as setup_fields;
 
 use crate::field_fault::{FieldFault, FieldFaultKind, FieldKey, FieldLocation};
-use crate::rows::{heads_up_swapped, read_antes, read_row, read_stacks};
+use crate::rows::{read_antes, read_row, read_stacks, swap_heads_up};
 use crate::sizes::read_sizes;
 use crate::values::{field, field_fault_at, read_flag, read_text, required};
 use chip_ledger::{MOST_CHIPS, PlayerCount, RakeRow, SeatRow};
@@ -31,7 +31,9 @@ pub fn read_setup(table: &Table) -> Result<Setup, ReadError<FieldFault>>
     let code = read_variant(required(table, FieldKey::Variant)?)?;
     let stacks = read_stacks(
         required(table, FieldKey::StartingStacks)?,
-        code.most_seats(),
+        PlayerCount {
+            number: code.most_seats(),
+        },
     )?;
     let antes = read_antes(required(table, FieldKey::Antes)?, &stacks)?;
     let trimmed = read_trimming(table)?;
@@ -47,7 +49,7 @@ pub fn read_setup(table: &Table) -> Result<Setup, ReadError<FieldFault>>
         code,
         stacks,
         antes,
-        dead_antes: are_dead(trimmed, &antes),
+        dead_antes: has_dead_antes(trimmed, &antes),
         blinds,
         bring_in,
         small_bet,
@@ -100,7 +102,7 @@ fn read_blinds(
     ensures most { IfOk result (λ row. (k : ℕ) → slice_index row.amounts k ≤ MOST_CHIPS) }
     ensures heads_up { IfOk result (λ row. players.number ≡ 2
         → slice_index row.amounts 1 ≤ slice_index row.amounts 0) }
-    ensures stud { IfOk result (λ row. is_stud code ≡ true
+    ensures stud { IfOk result (λ row. is_stud_game code ≡ true
         → (k : ℕ) → slice_index row.amounts k ≡ 0) }
 {
     if code.is_stud() {
@@ -111,12 +113,12 @@ fn read_blinds(
     }
     let value = required(table, FieldKey::BlindsOrStraddles)?;
     let blinds = read_row(value, players, MOST_CHIPS, FieldKey::BlindsOrStraddles)?;
-    Ok(heads_up_swapped(blinds))
+    Ok(swap_heads_up(blinds))
 }
 
 // Whether antes are dead.
 #[tactic(auto, using(card_set::proofs::NumbersOfRange::any_taken))]
-fn are_dead(trimmed: bool, antes: &SeatRow) -> bool
+fn has_dead_antes(trimmed: bool, antes: &SeatRow) -> bool
     ensures said { result ≡ setup_fields.are_dead trimmed (amounts_in antes.now) }
     ensures some { result ≡ true → list_any (λ seat. nat_lt 0 (amount_of antes.now seat))
         (seats_of antes.now.seats) ≡ true }

@@ -1,8 +1,8 @@
 //! The bet sizes of a hand are those that its game uses.
 ghost use Rattle.std.specs.Prelude.{◌≡◌, not, IfOk};
 ghost use Rattle.toml.specs.View.{table_view};
-ghost use Rattle.play_event.specs.Streets.{is_stud, limit_of};
-ghost use Rattle.play_event.specs.ValidSetup.{IsSizeWhere, is_fixed};
+ghost use Rattle.play_event.specs.Streets.{is_stud_game, limit_of};
+ghost use Rattle.play_event.specs.ValidSetup.{IsSizeWhere, is_fixed_limit};
 ghost use Rattle.first_fault.specs.Reading.{Gives};
 ghost use Rattle.phh_reading.specs.SetupFields.{size_said, sizes_said};
 
@@ -18,13 +18,13 @@ use toml::Table;
 #[tactic(auto, unfolding(crate::specs::SetupFields::sizes_said))]
 pub fn read_sizes(table: &Table, code: Code) -> Result<Sizes, ReadError<FieldFault>>
     ensures said { Gives (λ sizes. sizes) result (sizes_said code (table_view table.now)) }
-    ensures bring_in { IfOk result (λ sizes. IsSizeWhere (is_stud code) sizes.bring_in) }
+    ensures bring_in { IfOk result (λ sizes. IsSizeWhere (is_stud_game code) sizes.bring_in) }
     ensures small_bet { IfOk result (λ sizes.
-        IsSizeWhere (is_fixed (limit_of code)) sizes.small_bet) }
+        IsSizeWhere (is_fixed_limit (limit_of code)) sizes.small_bet) }
     ensures big_bet { IfOk result (λ sizes.
-        IsSizeWhere (is_fixed (limit_of code)) sizes.big_bet) }
+        IsSizeWhere (is_fixed_limit (limit_of code)) sizes.big_bet) }
     ensures min_bet { IfOk result (λ sizes.
-        IsSizeWhere (not (is_fixed (limit_of code))) sizes.min_bet) }
+        IsSizeWhere (not (is_fixed_limit (limit_of code))) sizes.min_bet) }
 {
     let fixed = code.is_fixed();
     let bring_in = read_size(table, code.is_stud(), FieldKey::BringIn)?;

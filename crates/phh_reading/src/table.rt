@@ -12,7 +12,7 @@ ghost use Rattle.phh_reading.specs.Tables.{IsFirstTable, IsHeader};
 ghost use Rattle.phh_reading.specs.Tables as tables;
 
 use crate::parsing::document;
-use crate::sections::has_section;
+use crate::sections::contains_section;
 use card_set::Memory;
 use std::alloc::Global;
 use toml::Table;
@@ -132,7 +132,7 @@ fn plain_table(alloc: Global, lines: &str) -> Result<Option<Table>, Memory>
     let Some(table) = document(alloc, lines)? else {
         return Ok(None);
     };
-    if has_section(&table) {
+    if contains_section(&table) {
         Ok(None)
     } else {
         Ok(Some(table))

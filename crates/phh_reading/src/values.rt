@@ -6,13 +6,16 @@ ghost use Rattle.phh_reading.specs.Fields.{amount_said, flag_said, items_said, l
 ghost use Rattle.phh_reading.specs.Fields as fields;
 
 use crate::field_fault::{FieldFault, FieldFaultKind, FieldKey, FieldLocation};
+use crate::player_values::PlayerValues;
+use chip_ledger::PlayerCount;
 use first_fault::{ReadError, in_range};
 use toml::{Table, Value};
 
 /// The value at a required key.
-#[tactic(auto, unfolding(crate::specs::Fields::required))]
+#[tactic(auto, unfolding(crate::specs::Fields::required_value))]
 pub fn required<'a>(table: &'a Table, key: FieldKey) -> Result<&'a Value, ReadError<FieldFault>>
-    ensures { Gives (λ value. view value.now) result (fields.required key (table_view table.now)) }
+    ensures { Gives (λ value. view value.now) result
+        (fields.required_value key (table_view table.now)) }
 {
     match field(table, key) {
         Some(value) => Ok(value),
@@ -23,7 +26,7 @@ pub fn required<'a>(table: &'a Table, key: FieldKey) -> Result<&'a Value, ReadEr
 /// The value at a key, if there is one.
 pub fn field<'a>(table: &'a Table, key: FieldKey) -> Option<&'a Value>
     ensures { option_map (λ value. view value.now) result
-        ≡ fields.field key (table_view table.now) }
+        ≡ fields.field_value key (table_view table.now) }
 {
     table.get(key.text())
 }
@@ -50,23 +53,25 @@ pub fn read_flag(value: &Value, place: FieldLocation) -> Result<bool, ReadError<
     }
 }
 
-/// The values of a list with one item for each of `seats` seats.
+/// The values of a list with one item for each player.
 #[tactic(auto, unfolding(crate::specs::Fields::items_said))]
 pub fn read_items(
     value: &Value,
-    seats: u8,
+    players: PlayerCount,
     key: FieldKey,
-) -> Result<&Vec<Value>, ReadError<FieldFault>>
-    ensures said { Gives (λ values. map view values.now.items) result
-        (items_said seats key (view value.now)) }
-    ensures count { IfOk result (λ values. length values.now.items ≡ seats) }
+) -> Result<PlayerValues<'_>, ReadError<FieldFault>>
+    ensures said { Gives (λ found. map view found.values.now) result
+        (items_said players.number key (view value.now)) }
+    ensures count { IfOk result (λ found. length found.values.now ≡ players.number) }
 {
     let place = FieldLocation::at_key(key);
     let values = read_list(value, place)?;
-    if values.len() != seats as usize {
+    if values.len() != players.number as usize {
         return Err(field_fault_at(FieldFaultKind::ListLength, place));
     }
-    Ok(values)
+    Ok(PlayerValues {
+        values: values.as_slice(),
+    })
 }
 
 /// The values of a list.

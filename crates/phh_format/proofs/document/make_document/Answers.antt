@@ -5,7 +5,7 @@ use Rattle.std.proofs.lemmas.Result.{IfOk-weaker}
 use Rattle.toml.proofs.Views.{view-Table}
 use Rattle.toml.specs.Data.{Data, Members, table}
 use Rattle.toml.specs.View.{table_view}
-use Rattle.phh_format.specs.Members.{put, table_of}
+use Rattle.phh_format.specs.Members.{table_of, with_member}
 use Rattle.phh_format.specs.Document.{numbered_hands}
 use Rattle.phh_format.proofs.Documents.{of_one, of_others, one_before}
 use Rattle.phh_format.proofs.document.make_document.Goals as goal
@@ -24,7 +24,7 @@ loop-left-preserved c =
       within = omega (arith, within);
       hands = one_before plays index c.loop-left.left c.get-in-loop-left.result c.as_str.result.now (table_view c.loop-left.table) (table_view c.put.new.table) (omega (arith, c.loop-left-test.true)) c.get-in-loop-left.ensures
           (c.as_str.ensures.value ∙ c.in_ok-key.ensures.ok) c.loop-left.invariant.hands
-          (c.in_ok-put.ensures ∙ ap (λ (value : Data). put c.as_str.result.now value (table_view c.loop-left.table)) (view-Table c.in_ok-hand.hand) ∙ ap (λ (hand : Members). put c.as_str.result.now (table hand) (table_view c.loop-left.table)) c.in_ok-hand.ensures);
+          (c.in_ok-put.ensures ∙ ap (λ (value : Data). with_member c.as_str.result.now value (table_view c.loop-left.table)) (view-Table c.in_ok-hand.hand) ∙ ap (λ (hand : Members). with_member c.as_str.result.now (table hand) (table_view c.loop-left.table)) c.in_ok-hand.ensures);
     }
 
 pub returns : goal.returns

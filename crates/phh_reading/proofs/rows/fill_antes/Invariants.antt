@@ -3,7 +3,7 @@ use Rattle.toml.specs.View.{view}
 use Rattle.first_fault.specs.Reading.{each_from}
 use Rattle.first_fault.proofs.EachItem.{with_front}
 use Rattle.phh_reading.specs.declared.field_fault.FieldKey.TheVariants as keys
-use Rattle.phh_reading.specs.Fields.{at_item}
+use Rattle.phh_reading.specs.Fields.{item_place}
 use Rattle.phh_reading.specs.Rows.{ante_said, antes_from}
 use Rattle.phh_reading.proofs.rows.fill_antes.Given as goal
 
@@ -14,5 +14,5 @@ invariant-loop-index l = record {
   ten : length l.amounts ≡ 10;
   most : (k : ℕ) → slice_index l.amounts k ≤ slice_index l.stacks.amounts k;
   zeros : (k : ℕ) → l.index ≤ k → slice_index l.amounts k ≡ 0;
-  read : with_front (take l.index l.amounts) (each_from (λ n value. ante_said (slice_index l.stacks.amounts (n - 1)) (at_item keys.Antes n) value) (l.index + 1) (map view (drop l.index l.values))) ≡ antes_from l.stacks.amounts (map view l.values);
+  read : with_front (take l.index l.amounts) (each_from (λ n value. ante_said (slice_index l.stacks.amounts (n - 1)) (item_place keys.Antes n) value) (l.index + 1) (map view (drop l.index l.values))) ≡ antes_from l.stacks.amounts (map view l.values);
 }

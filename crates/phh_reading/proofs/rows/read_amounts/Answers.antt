@@ -4,7 +4,7 @@ use Rattle.std.proofs.lemmas.Result.{err_from_is_err_and}
 use Rattle.toml.specs.View.{view}
 use Rattle.first_fault.specs.Reading.{each_from}
 use Rattle.first_fault.proofs.EachItem.{with_front, goes_on, ends, is_done}
-use Rattle.phh_reading.specs.Fields.{at_item, amount_said}
+use Rattle.phh_reading.specs.Fields.{item_place, amount_said}
 use Rattle.phh_reading.specs.Rows.{amounts_said}
 use Rattle.phh_reading.proofs.rows.read_amounts.Goals as goal
 use Rattle.card_set.proofs.Entries.{set_each}
@@ -12,7 +12,7 @@ use Rattle.card_set.proofs.Entries.{set_each}
 pub returns-in_err-amounts-clause-amounts : goal.returns-in_err-amounts-clause-amounts
 returns-in_err-amounts-clause-amounts c =
     let p = err_from_is_err_and c.from_residual.result c.from_residual.ensures.1 in
-    rw (p.1, p.2) (ends view (λ n value. amount_said c.args.least c.args.most (at_item c.args.key n) value) c.in_err-amounts.field-0.0 (take c.loop-index.index c.loop-index.amounts) c.args.values.now c.loop-index.index c.index-values-index.result (amounts_said c.args.least c.args.most c.args.key (map view c.args.values.now)) c.loop-index-test.true (sym c.index-values-index.is) c.in_err-amounts.ensures.said c.loop-index.invariant.read)
+    rw (p.1, p.2) (ends view (λ n value. amount_said c.args.least c.args.most (item_place c.args.key n) value) c.in_err-amounts.field-0.0 (take c.loop-index.index c.loop-index.amounts) c.args.players.now.values.now c.loop-index.index c.index-values-index.result (amounts_said c.args.least c.args.most c.args.key (map view c.args.players.now.values.now)) c.loop-index-test.true (sym c.index-values-index.is) c.in_err-amounts.ensures.said c.loop-index.invariant.read)
 
 pub loop-index-preserved : goal.loop-index-preserved
 loop-index-preserved c =
@@ -27,11 +27,11 @@ loop-index-preserved c =
       most = set_each 0 (λ k amount. amount ≤ c.args.most) l.amounts l.index x here (λ k other. inv.most k) few.1;
       zeros = set_each 0 (λ k amount. l.index + 1 ≤ k → amount ≡ 0) l.amounts l.index x here (λ k other late. inv.zeros k (omega (arith, late))) (λ late. absurd (omega (arith, late)));
       read =
-          ap (λ (front : List ℕ). with_front front (each_from (λ n value. amount_said c.args.least c.args.most (at_item c.args.key n) value) (l.index + 1 + 1) (map view (drop (l.index + 1) c.args.values.now)))) (take_more_set l.amounts l.index x here)
-          ∙ goes_on view (λ n value. amount_said c.args.least c.args.most (at_item c.args.key n) value) (take l.index l.amounts) c.args.values.now l.index c.index-values-index.result x _ c.loop-index-test.true (sym c.index-values-index.is) c.in_ok-amounts.ensures.said inv.read;
+          ap (λ (front : List ℕ). with_front front (each_from (λ n value. amount_said c.args.least c.args.most (item_place c.args.key n) value) (l.index + 1 + 1) (map view (drop (l.index + 1) c.args.players.now.values.now)))) (take_more_set l.amounts l.index x here)
+          ∙ goes_on view (λ n value. amount_said c.args.least c.args.most (item_place c.args.key n) value) (take l.index l.amounts) c.args.players.now.values.now l.index c.index-values-index.result x _ c.loop-index-test.true (sym c.index-values-index.is) c.in_ok-amounts.ensures.said inv.read;
     }
 
 pub returns-clause-amounts : goal.returns-clause-amounts
 returns-clause-amounts c =
-    let whole : c.loop-index.index ≡ length c.args.values.now = omega arith in
-    is_done view (λ n value. amount_said c.args.least c.args.most (at_item c.args.key n) value) (take (length c.args.values.now) c.loop-index.amounts) c.args.values.now c.loop-index.index (amounts_said c.args.least c.args.most c.args.key (map view c.args.values.now)) c.loop-index-test.false (rw (sym whole) c.loop-index.invariant.read)
+    let whole : c.loop-index.index ≡ length c.args.players.now.values.now = omega arith in
+    is_done view (λ n value. amount_said c.args.least c.args.most (item_place c.args.key n) value) (take (length c.args.players.now.values.now) c.loop-index.amounts) c.args.players.now.values.now c.loop-index.index (amounts_said c.args.least c.args.most c.args.key (map view c.args.players.now.values.now)) c.loop-index-test.false (rw (sym whole) c.loop-index.invariant.read)

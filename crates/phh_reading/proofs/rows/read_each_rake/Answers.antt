@@ -6,7 +6,7 @@ use Rattle.first_fault.specs.Reading.{each_from}
 use Rattle.first_fault.proofs.EachItem.{with_front, goes_on, ends, is_done}
 use Rattle.chip_ledger.specs.declared.seat_row.TheConstants.{MOST_AMOUNT}
 use Rattle.phh_reading.specs.declared.field_fault.FieldKey.TheVariants as keys
-use Rattle.phh_reading.specs.Fields.{at_item, amount_said}
+use Rattle.phh_reading.specs.Fields.{item_place, amount_said}
 use Rattle.phh_reading.specs.Rows.{amounts_said}
 use Rattle.phh_reading.proofs.rows.read_each_rake.Goals as goal
 use Rattle.card_set.proofs.Entries.{set_each}
@@ -14,7 +14,7 @@ use Rattle.card_set.proofs.Entries.{set_each}
 pub returns-in_err-rakes-clause-amounts : goal.returns-in_err-rakes-clause-amounts
 returns-in_err-rakes-clause-amounts c =
     let p = err_from_is_err_and c.from_residual.result c.from_residual.ensures.1 in
-    rw (p.1, p.2) (ends view (λ n value. amount_said 0 MOST_AMOUNT (at_item keys.Rakes n) value) c.in_err-rakes.field-0.0 (take c.loop-index.index c.loop-index.rakes) c.args.values.now c.loop-index.index c.index-values-index.result (amounts_said 0 MOST_AMOUNT keys.Rakes (map view c.args.values.now)) c.loop-index-test.true (sym c.index-values-index.is) c.in_err-rakes.ensures.said c.loop-index.invariant.read)
+    rw (p.1, p.2) (ends view (λ n value. amount_said 0 MOST_AMOUNT (item_place keys.Rakes n) value) c.in_err-rakes.field-0.0 (take c.loop-index.index c.loop-index.rakes) c.args.values.now c.loop-index.index c.index-values-index.result (amounts_said 0 MOST_AMOUNT keys.Rakes (map view c.args.values.now)) c.loop-index-test.true (sym c.index-values-index.is) c.in_err-rakes.ensures.said c.loop-index.invariant.read)
 
 pub loop-index-preserved : goal.loop-index-preserved
 loop-index-preserved c =
@@ -28,11 +28,11 @@ loop-index-preserved c =
       most = set_each 0 (λ k amount. amount ≤ MOST_AMOUNT) l.rakes l.index x here (λ k other. inv.most k) few.1;
       zeros = set_each 0 (λ k amount. l.index + 1 ≤ k → amount ≡ 0) l.rakes l.index x here (λ k other late. inv.zeros k (omega (arith, late))) (λ late. absurd (omega (arith, late)));
       read =
-          ap (λ (front : List ℕ). with_front front (each_from (λ n value. amount_said 0 MOST_AMOUNT (at_item keys.Rakes n) value) (l.index + 1 + 1) (map view (drop (l.index + 1) c.args.values.now)))) (take_more_set l.rakes l.index x here)
-          ∙ goes_on view (λ n value. amount_said 0 MOST_AMOUNT (at_item keys.Rakes n) value) (take l.index l.rakes) c.args.values.now l.index c.index-values-index.result x _ c.loop-index-test.true (sym c.index-values-index.is) c.in_ok-rakes.ensures.said inv.read;
+          ap (λ (front : List ℕ). with_front front (each_from (λ n value. amount_said 0 MOST_AMOUNT (item_place keys.Rakes n) value) (l.index + 1 + 1) (map view (drop (l.index + 1) c.args.values.now)))) (take_more_set l.rakes l.index x here)
+          ∙ goes_on view (λ n value. amount_said 0 MOST_AMOUNT (item_place keys.Rakes n) value) (take l.index l.rakes) c.args.values.now l.index c.index-values-index.result x _ c.loop-index-test.true (sym c.index-values-index.is) c.in_ok-rakes.ensures.said inv.read;
     }
 
 pub returns-clause-amounts : goal.returns-clause-amounts
 returns-clause-amounts c =
     let whole : c.loop-index.index ≡ length c.args.values.now = omega arith in
-    is_done view (λ n value. amount_said 0 MOST_AMOUNT (at_item keys.Rakes n) value) (take (length c.args.values.now) c.loop-index.rakes) c.args.values.now c.loop-index.index (amounts_said 0 MOST_AMOUNT keys.Rakes (map view c.args.values.now)) c.loop-index-test.false (rw (sym whole) c.loop-index.invariant.read)
+    is_done view (λ n value. amount_said 0 MOST_AMOUNT (item_place keys.Rakes n) value) (take (length c.args.values.now) c.loop-index.rakes) c.args.values.now c.loop-index.index (amounts_said 0 MOST_AMOUNT keys.Rakes (map view c.args.values.now)) c.loop-index-test.false (rw (sym whole) c.loop-index.invariant.read)

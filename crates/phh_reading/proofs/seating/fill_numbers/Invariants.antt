@@ -4,7 +4,7 @@ use Rattle.first_fault.specs.Reading.{each_from}
 use Rattle.first_fault.proofs.EachItem.{with_front}
 use Rattle.hand_canon.specs.AllowedNotes.{IsWithin}
 use Rattle.phh_reading.specs.declared.field_fault.FieldKey.TheVariants as keys
-use Rattle.phh_reading.specs.Fields.{at_item, number_said}
+use Rattle.phh_reading.specs.Fields.{item_place, number_said}
 use Rattle.phh_reading.specs.NoteFields.{numbers_from}
 use Rattle.phh_reading.proofs.seating.fill_numbers.Given as goal
 
@@ -15,5 +15,5 @@ invariant-loop-index l = record {
   ten : length l.numbers ≡ 10;
   each : (k : ℕ) → k < l.index → IsWithin 1 255 (slice_index l.numbers k);
   zeros : (k : ℕ) → l.index ≤ k → slice_index l.numbers k ≡ 0;
-  read : with_front (take l.index l.numbers) (each_from (λ n value. number_said 1 255 (at_item keys.Seats n) value) (l.index + 1) (map view (drop l.index l.values))) ≡ numbers_from (map view l.values);
+  read : with_front (take l.index l.numbers) (each_from (λ n value. number_said 1 255 (item_place keys.Seats n) value) (l.index + 1) (map view (drop l.index l.players.values.now))) ≡ numbers_from (map view l.players.values.now);
 }
