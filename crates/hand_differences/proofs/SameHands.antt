@@ -25,7 +25,7 @@ use Rattle.hand_differences.proofs.ExactTests.{exact_bytes, exact_clocks, exact_
 use Rattle.hand_differences.proofs.FirstNumbers.{find_never, none_of_same, same_of_none}
 use Rattle.hand_differences.proofs.SameCores.{AreAlike, one_trace}
 use Rattle.hand_differences.proofs.SameSetups.{no_rows, setup_of_rows}
-use Rattle.hand_differences.specs.FirstDifference.{PlainDifference, Note, Shown, card_difference, card_reported, first_difference, first_holding, is_same_note, move_difference, move_reported, note_difference, play_difference, setup_rows, shown_difference}
+use Rattle.hand_differences.specs.FirstDifference.{PlainDifference, Note, Shown, card_difference, card_reported, reported_difference, first_holding, agree_on_note, move_difference, move_reported, note_difference, play_difference, setup_rows, shown_difference}
 use Rattle.hand_differences.specs.FirstNumbers.{entry_at, first_other_number, is_same_at}
 use Rattle.hand_differences.specs.SameParts.{is_same_clock, is_same_move, is_same_option, is_same_place, is_same_test, is_same_text}
 
@@ -79,10 +79,10 @@ none_of_shown a = ap (option_map Shown) (find_never (λ seat. not (is_same_test 
 -- ---- notes
 
 -- each note of a list in which none differs is the same
-note_at : (a b : SaidNotes) (first : NoteName) (rest : List NoteName) → find (λ name. not (is_same_note a b name)) (first ∷ rest) ≡ None → (is_same_note a b first ≡ true) × (find (λ name. not (is_same_note a b name)) rest ≡ None)
-note_at a b first rest none = go (is_same_note a b first) none
+note_at : (a b : SaidNotes) (first : NoteName) (rest : List NoteName) → find (λ name. not (agree_on_note a b name)) (first ∷ rest) ≡ None → (agree_on_note a b first ≡ true) × (find (λ name. not (agree_on_note a b name)) rest ≡ None)
+note_at a b first rest none = go (agree_on_note a b first) none
   where
-    go : (same : Bool) → cond (not same) (Some first) (find (λ name. not (is_same_note a b name)) rest) ≡ None → (same ≡ true) × (find (λ name. not (is_same_note a b name)) rest ≡ None)
+    go : (same : Bool) → cond (not same) (Some first) (find (λ name. not (agree_on_note a b name)) rest) ≡ None → (same ≡ true) × (find (λ name. not (agree_on_note a b name)) rest ≡ None)
     go true none = (refl, none)
     go false none = absurd (some_is_none none)
 
@@ -124,7 +124,7 @@ notes_of_none : (a b : SaidNotes) → note_difference a b ≡ None → a ≡ b
 notes_of_none a b none =
     let text = exact_options bytes_eq exact_bytes in
     let number = exact_options (λ (x y : ℕ). x == y) exact_numbers in
-    let players = note_at a b names.Players after_players (made_none Note (find (λ name. not (is_same_note a b name)) note_names) none) in
+    let players = note_at a b names.Players after_players (made_none Note (find (λ name. not (agree_on_note a b name)) note_names) none) in
     let seats = note_at a b names.Seats after_seats players.1 in
     let seat_count = note_at a b names.SeatCount after_seat_count seats.1 in
     let hand = note_at a b names.Hand after_hand seat_count.1 in
@@ -153,7 +153,7 @@ notes_of_none a b none =
       zone = text.one a.zone b.zone zone.0;
     })
 
-own_note : (a : SaidNotes) (name : NoteName) → is_same_note a a name ≡ true
+own_note : (a : SaidNotes) (name : NoteName) → agree_on_note a a name ≡ true
 own_note a names.Players = (exact_lists is_same_text (exact_options bytes_eq exact_bytes)).own a.names
 own_note a names.Seats = (exact_options bytes_eq exact_bytes).own a.seats
 own_note a names.SeatCount = (exact_options (λ (x y : ℕ). x == y) exact_numbers).own a.seat_count
@@ -165,9 +165,9 @@ own_note a names.Day = (exact_options (λ (x y : ℕ). x == y) exact_numbers).ow
 own_note a names.Time = (exact_options is_same_clock exact_clocks).own a.time
 own_note a name = (exact_options bytes_eq exact_bytes).own (text_named a.texts name)
 
-no_note : (a : SaidNotes) (some : List NoteName) → find (λ name. not (is_same_note a a name)) some ≡ None
+no_note : (a : SaidNotes) (some : List NoteName) → find (λ name. not (agree_on_note a a name)) some ≡ None
 no_note a [] = refl
-no_note a (name ∷ rest) = ap (λ b. cond (not b) (Some name) (find (λ name. not (is_same_note a a name)) rest)) (own_note a name) ∙ no_note a rest
+no_note a (name ∷ rest) = ap (λ b. cond (not b) (Some name) (find (λ name. not (agree_on_note a a name)) rest)) (own_note a name) ∙ no_note a rest
 
 none_of_notes : (a : SaidNotes) → note_difference a a ≡ None
 none_of_notes a = ap (option_map Note) (no_note a note_names)
@@ -204,16 +204,16 @@ none_of_trace play other same =
     (none_of_shown play.trace.shown))))
 
 -- sound plays differ in nothing but their notes if and only if they have the same trace
-pub same_traces : (place : ℕ) (play other : Play) → IsSound play → IsSound other → (first_difference false place play other ≡ None) ↔ (play.trace ≡ other.trace)
-unfolding first_difference
+pub same_traces : (place : ℕ) (play other : Play) → IsSound play → IsSound other → (reported_difference false place play other ≡ None) ↔ (play.trace ≡ other.trace)
+unfolding reported_difference
 same_traces place play other sound too = (
   (λ none. one_trace play other sound too (alike_of_none play other sound too (neither (play_difference play other) None none).0)),
   (λ same. both (play_difference play other) None (none_of_trace play other same) refl),
 )
 
 -- and in nothing at all if and only if they also have the same notes
-pub same_with_notes : (place : ℕ) (play other : Play) → IsSound play → IsSound other → (first_difference true place play other ≡ None) ↔ AreSameHand (λ notes. notes) place play other
-unfolding first_difference
+pub same_with_notes : (place : ℕ) (play other : Play) → IsSound play → IsSound other → (reported_difference true place play other ≡ None) ↔ AreSameHand (λ notes. notes) place play other
+unfolding reported_difference
 same_with_notes place play other sound too = (
   (λ none.
       let it = neither (play_difference play other) (note_difference (notes_of place play) (notes_of place other)) none in

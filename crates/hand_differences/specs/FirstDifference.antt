@@ -109,23 +109,23 @@ shown_difference shown others =
     (seats_of shown.seats))
 
 -- a note is the same in both; one that equals its default counts as missing
-abbrev pub is_same_note : SaidNotes → SaidNotes → NoteName → Bool
-is_same_note notes other names.Players = are_same_entries is_same_text notes.names other.names
-is_same_note notes other names.Seats = is_same_text notes.seats other.seats
-is_same_note notes other names.SeatCount = is_same_number notes.seat_count other.seat_count
-is_same_note notes other names.Hand = is_same_text notes.hand other.hand
-is_same_note notes other names.TimeZone = is_same_text notes.zone other.zone
-is_same_note notes other names.Year = is_same_number notes.year other.year
-is_same_note notes other names.Month = is_same_number notes.month other.month
-is_same_note notes other names.Day = is_same_number notes.day other.day
-is_same_note notes other names.Time = is_same_option is_same_clock notes.time other.time
-is_same_note notes other name =
+abbrev pub agree_on_note : SaidNotes → SaidNotes → NoteName → Bool
+agree_on_note notes other names.Players = are_same_entries is_same_text notes.names other.names
+agree_on_note notes other names.Seats = is_same_text notes.seats other.seats
+agree_on_note notes other names.SeatCount = is_same_number notes.seat_count other.seat_count
+agree_on_note notes other names.Hand = is_same_text notes.hand other.hand
+agree_on_note notes other names.TimeZone = is_same_text notes.zone other.zone
+agree_on_note notes other names.Year = is_same_number notes.year other.year
+agree_on_note notes other names.Month = is_same_number notes.month other.month
+agree_on_note notes other names.Day = is_same_number notes.day other.day
+agree_on_note notes other names.Time = is_same_option is_same_clock notes.time other.time
+agree_on_note notes other name =
     is_same_text (text_named notes.texts name) (text_named other.texts name)
 
 -- the first note that differs
 abbrev pub note_difference : SaidNotes → SaidNotes → Option PlainDifference
 note_difference notes other =
-    option_map Note (find (λ name. not (is_same_note notes other name)) note_names)
+    option_map Note (find (λ name. not (agree_on_note notes other name)) note_names)
 
 -- what differs in two hands, leaving their notes aside
 abbrev pub play_difference : Play → Play → Option PlainDifference
@@ -137,7 +137,7 @@ play_difference play other =
 
 -- The first difference of two plays, each at this place of its file, from 0. Notes are compared
 -- only if `notes` is set.
-unfoldable pub first_difference : (notes : Bool) → ℕ → Play → Play → Option PlainDifference
-first_difference notes place play other =
+unfoldable pub reported_difference : (notes : Bool) → ℕ → Play → Play → Option PlainDifference
+reported_difference notes place play other =
     option_or (play_difference play other)
     (if notes then note_difference (notes_of place play) (notes_of place other) else None)

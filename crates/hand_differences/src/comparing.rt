@@ -4,9 +4,9 @@ ghost use Rattle.hand_differences.specs.FirstDifference.{difference_said};
 ghost use Rattle.hand_differences.specs.FirstDifference as differences;
 
 use crate::difference::Difference;
-use crate::lists::{card_difference, move_difference, shown_difference};
-use crate::notes::note_difference;
-use crate::setups::setup_difference;
+use crate::lists::{find_card_difference, find_move_difference, find_shown_difference};
+use crate::notes::find_note_difference;
+use crate::setups::find_setup_difference;
 use hand_canon::{Play, SoundPlay};
 
 /// The first difference of two plays, each at this index of its file, from 0; `None` if they are
@@ -22,43 +22,43 @@ pub fn first_difference(
     other: &SoundPlay<'_>,
 ) -> Option<Difference>
     ensures { option_map difference_said result
-        ≡ differences.first_difference notes index play.now other.now }
+        ≡ differences.reported_difference notes index play.now other.now }
 {
     let play = play.play();
     let other = other.play();
-    let found = play_difference(play, other);
+    let found = find_play_difference(play, other);
     if found.is_some() {
         return found;
     }
     if !notes {
         return None;
     }
-    note_difference(
+    find_note_difference(
         index,
-        play.trace.setup.stacks.seats,
+        play.trace.setup.stacks.players(),
         &play.hand.notes,
         &other.hand.notes,
     )
 }
 
 // The first difference of two plays, leaving their notes aside.
-fn play_difference(play: &Play, other: &Play) -> Option<Difference>
+fn find_play_difference(play: &Play, other: &Play) -> Option<Difference>
     ensures named { option_map difference_said result
         ≡ differences.play_difference play.now other.now }
     ensures seats { IfNone result
         (play.now.trace.setup.stacks.seats ≡ other.now.trace.setup.stacks.seats) }
 {
-    let found = setup_difference(&play.trace.setup, &other.trace.setup);
+    let found = find_setup_difference(&play.trace.setup, &other.trace.setup);
     if found.is_some() {
         return found;
     }
-    let found = move_difference(play.trace.moves.as_slice(), other.trace.moves.as_slice());
+    let found = find_move_difference(play.trace.moves.as_slice(), other.trace.moves.as_slice());
     if found.is_some() {
         return found;
     }
-    let found = card_difference(play.trace.places.as_slice(), other.trace.places.as_slice());
+    let found = find_card_difference(play.trace.places.as_slice(), other.trace.places.as_slice());
     if found.is_some() {
         return found;
     }
-    shown_difference(&play.trace.shown, &other.trace.shown)
+    find_shown_difference(&play.trace.shown, &other.trace.shown)
 }

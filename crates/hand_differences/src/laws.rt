@@ -2,7 +2,7 @@
 //! and where lists first differ.
 ghost use Rattle.std.specs.Prelude.{◌≡◌, ◌↔◌, ◌++◌, ◌≤◌, ℕ, List, None, Some, [], false, length, true};
 ghost use Rattle.hand_canon.specs.Sound.{IsSound};
-ghost use Rattle.hand_differences.specs.FirstDifference.{first_difference};
+ghost use Rattle.hand_differences.specs.FirstDifference.{reported_difference};
 ghost use Rattle.hand_differences.specs.FirstNumbers.{DifferFirstAt, first_other_number};
 ghost use Rattle.hand_differences.specs.SameParts.{is_same_move, is_same_place};
 ghost use Rattle.hand_canon.specs.SameHands.{AreSameHand};
@@ -14,10 +14,10 @@ ghost use Rattle.play_event.specs.declared.played.Place.{Place};
 /// compared, the same notes.
 pub fn law_of_same_hands()
     ensures notes { (place : ℕ) (play other : Play) → IsSound play → IsSound other
-        → (first_difference true place play other ≡ None)
+        → (reported_difference true place play other ≡ None)
         ↔ AreSameHand (λ notes. notes) place play other }
     ensures traces { (place : ℕ) (play other : Play) → IsSound play → IsSound other
-        → (first_difference false place play other ≡ None) ↔ (play.trace ≡ other.trace) }
+        → (reported_difference false place play other ≡ None) ↔ (play.trace ≡ other.trace) }
 {}
 
 /// Sound plays with the same setup, moves, dealt cards and shown seats have the same trace: who

@@ -16,4 +16,4 @@ pub use difference::Difference;
 pub use laws::{
     law_of_beginnings, law_of_entries, law_of_first_numbers, law_of_same_hands, law_of_what_follows,
 };
-pub use telling::difference_text;
+pub use telling::write_difference;

@@ -8,12 +8,12 @@ ghost use Rattle.hand_differences.specs.FirstNumbers.{entry_at, first_other_numb
 ghost use Rattle.hand_differences.specs.SameParts as same_parts;
 
 use crate::difference::Difference;
-use crate::rows::{is_same_move, is_same_place, is_same_test};
+use crate::rows::{are_equal_bools, are_equal_moves, are_equal_places};
 use chip_ledger::{LiveRow, Seat};
 use play_event::{Move, Place};
 
 // The first move that differs.
-pub(crate) fn move_difference(played: &[Move], others: &[Move]) -> Option<Difference>
+pub(crate) fn find_move_difference(played: &[Move], others: &[Move]) -> Option<Difference>
     ensures { option_map difference_said result
         ≡ differences.move_difference played.now others.now }
 {
@@ -35,7 +35,7 @@ fn first_other_move(played: &[Move], others: &[Move]) -> Option<usize>
     ensures { result ≡ first_other_number same_parts.is_same_move played.now others.now }
 {
     for index in 0..greater(played.len(), others.len()) {
-        if !is_same_move_at(played, others, index + 1) {
+        if !are_equal_moves_at(played, others, index + 1) {
             return Some(index + 1);
         }
     }
@@ -43,12 +43,12 @@ fn first_other_move(played: &[Move], others: &[Move]) -> Option<usize>
 }
 
 // Both lists have the same move at this number, or neither has one.
-fn is_same_move_at(played: &[Move], others: &[Move], number: usize) -> bool
+fn are_equal_moves_at(played: &[Move], others: &[Move], number: usize) -> bool
     ensures { result ≡ is_same_at same_parts.is_same_move played.now others.now number }
 {
     let index = number.saturating_sub(1);
     match (played.get(index), others.get(index)) {
-        (Some(a), Some(b)) => is_same_move(a, b),
+        (Some(a), Some(b)) => are_equal_moves(a, b),
         (None, None) => true,
         (Some(_), None) | (None, Some(_)) => false,
     }
@@ -66,7 +66,7 @@ fn move_at(played: &[Move], others: &[Move], number: usize) -> Option<Move>
 }
 
 // The first dealt card that differs.
-pub(crate) fn card_difference(dealt: &[Place], others: &[Place]) -> Option<Difference>
+pub(crate) fn find_card_difference(dealt: &[Place], others: &[Place]) -> Option<Difference>
     ensures { option_map difference_said result ≡ differences.card_difference dealt.now others.now }
 {
     let Some(number) = first_other_place(dealt, others) else {
@@ -87,7 +87,7 @@ fn first_other_place(dealt: &[Place], others: &[Place]) -> Option<usize>
     ensures { result ≡ first_other_number same_parts.is_same_place dealt.now others.now }
 {
     for index in 0..greater(dealt.len(), others.len()) {
-        if !is_same_place_at(dealt, others, index + 1) {
+        if !are_equal_places_at(dealt, others, index + 1) {
             return Some(index + 1);
         }
     }
@@ -95,12 +95,12 @@ fn first_other_place(dealt: &[Place], others: &[Place]) -> Option<usize>
 }
 
 // Both lists have the same dealt card at this number, or neither has one.
-fn is_same_place_at(dealt: &[Place], others: &[Place], number: usize) -> bool
+fn are_equal_places_at(dealt: &[Place], others: &[Place], number: usize) -> bool
     ensures { result ≡ is_same_at same_parts.is_same_place dealt.now others.now number }
 {
     let index = number.saturating_sub(1);
     match (dealt.get(index), others.get(index)) {
-        (Some(a), Some(b)) => is_same_place(a, b),
+        (Some(a), Some(b)) => are_equal_places(a, b),
         (None, None) => true,
         (Some(_), None) | (None, Some(_)) => false,
     }
@@ -125,7 +125,7 @@ fn greater(a: usize, b: usize) -> usize
 }
 
 // The lowest seat that is shown in only one of two hands.
-pub(crate) fn shown_difference(shown: &LiveRow, others: &LiveRow) -> Option<Difference>
+pub(crate) fn find_shown_difference(shown: &LiveRow, others: &LiveRow) -> Option<Difference>
     ensures { option_map difference_said result
         ≡ differences.shown_difference shown.now others.now }
 {
@@ -144,5 +144,5 @@ fn is_shown_in_one(shown: &LiveRow, others: &LiveRow, seat: Seat) -> bool
         (flag_of others.now seat.number)) }
 {
     let index = seat.number as usize - 1;
-    !is_same_test(shown.flags[index], others.flags[index])
+    !are_equal_bools(shown.flags[index], others.flags[index])
 }

@@ -1,5 +1,5 @@
 //! Compares the notes of two hands, in the order in which notes are listed.
-ghost use Rattle.std.specs.Prelude.{◌≡◌, ◌≤◌, IfSome, bytes_eq, decimal, find, map, not, option_map};
+ghost use Rattle.std.specs.Prelude.{◌≡◌, IfSome, bytes_eq, decimal, find, map, not, option_map};
 ghost use Rattle.std.proofs.Props.{props};
 ghost use Rattle.chip_ledger.specs.Seat.{seats_of};
 ghost use Rattle.hand_canon.specs.AllowedNotes.{AreSeatNumbers};
@@ -11,24 +11,27 @@ ghost use Rattle.hand_differences.specs.SameParts.{are_same_entries, is_same_clo
 ghost use Rattle.hand_differences.specs.SameParts as same_parts;
 
 use crate::difference::Difference;
+use chip_ledger::PlayerCount;
 use first_fault::Text;
 use hand_canon::{Clock, NoteName, Notes};
 
-// The first note that differs in two hands of `count` seats, each at this index of its file.
-pub(crate) fn note_difference(
+// The first note that differs in two hands with this number of players, each at this index of its
+// file.
+pub(crate) fn find_note_difference(
     index: usize,
-    count: u8,
+    players: PlayerCount,
     notes: &Notes,
     others: &Notes,
 ) -> Option<Difference>
-    requires { AreBothAllowed count notes.now others.now }
+    requires { AreBothAllowed players.number notes.now others.now }
     ensures { option_map difference_said result ≡ differences.note_difference
-        (said_notes index count notes.now) (said_notes index count others.now) }
+        (said_notes index players.number notes.now)
+        (said_notes index players.number others.now) }
 {
     let names = NoteName::all();
     let both = BothNotes {
         index,
-        count,
+        players,
         notes,
         others,
     };
@@ -38,22 +41,23 @@ pub(crate) fn note_difference(
     }
 }
 
-// The notes of two hands of `count` seats, each at this index of its file.
+// The notes of two hands with this number of players, each at this index of its file.
 #[derive(Clone, Copy)]
 struct BothNotes<'a> {
     index: usize,
-    count: u8,
+    players: PlayerCount,
     notes: &'a Notes,
     others: &'a Notes,
-    ghost allowed: { AreBothAllowed count notes.now others.now } by { Prim.hlevel props },
+    ghost allowed: { AreBothAllowed players.number notes.now others.now } by { Prim.hlevel props },
 }
 
 impl BothNotes<'_> {
     // The first of some notes that differs.
     fn first_other(&self, names: &[NoteName]) -> Option<NoteName>
-        ensures { result ≡ find (λ name. not (differences.is_same_note
-            (said_notes self.now.index self.now.count self.now.notes.now)
-            (said_notes self.now.index self.now.count self.now.others.now) name)) names.now }
+        ensures { result ≡ find (λ name. not (differences.agree_on_note
+            (said_notes self.now.index self.now.players.number self.now.notes.now)
+            (said_notes self.now.index self.now.players.number self.now.others.now) name))
+            names.now }
     {
         match names {
             [] => None,
@@ -69,58 +73,65 @@ impl BothNotes<'_> {
 
     // The note is the same in both.
     fn is_same_note(&self, name: NoteName) -> bool
-        ensures { result ≡ differences.is_same_note
-            (said_notes self.now.index self.now.count self.now.notes.now)
-            (said_notes self.now.index self.now.count self.now.others.now) name }
+        ensures { result ≡ differences.agree_on_note
+            (said_notes self.now.index self.now.players.number self.now.notes.now)
+            (said_notes self.now.index self.now.players.number self.now.others.now) name }
     {
         let (notes, others) = (self.notes, self.others);
         match name {
-            NoteName::Players => are_same_names(self.count, &notes.names, &others.names),
-            NoteName::Seats => are_same_seats(self.count, &notes.seats, &others.seats),
-            NoteName::SeatCount => is_same_byte(notes.seat_count, others.seat_count),
-            NoteName::Hand => is_same_label(self.index, &notes.hand, &others.hand),
-            NoteName::TimeZone => is_same_text(&notes.zone, &others.zone),
-            NoteName::Year => is_same_year(notes.year, others.year),
-            NoteName::Month => is_same_byte(notes.month, others.month),
-            NoteName::Day => is_same_byte(notes.day, others.day),
-            NoteName::Time => is_same_time(notes.time, others.time),
-            _ => are_same_texts(notes.text(name), others.text(name)),
+            NoteName::Players => are_equal_names(self.players, &notes.names, &others.names),
+            NoteName::Seats => are_equal_seats(self.players, &notes.seats, &others.seats),
+            NoteName::SeatCount => are_equal_bytes(notes.seat_count, others.seat_count),
+            NoteName::Hand => are_equal_labels(self.index, &notes.hand, &others.hand),
+            NoteName::TimeZone => are_equal_texts(&notes.zone, &others.zone),
+            NoteName::Year => are_equal_years(notes.year, others.year),
+            NoteName::Month => are_equal_bytes(notes.month, others.month),
+            NoteName::Day => are_equal_bytes(notes.day, others.day),
+            NoteName::Time => are_equal_times(notes.time, others.time),
+            _ => are_equal_plain_texts(notes.text(name), others.text(name)),
         }
     }
 }
 
 // The names of the players are the same, seat by seat.
-fn are_same_names(count: u8, names: &[Option<Text>; 10], others: &[Option<Text>; 10]) -> bool
-    requires { count ≤ 10 }
+fn are_equal_names(
+    players: PlayerCount,
+    names: &[Option<Text>; 10],
+    others: &[Option<Text>; 10],
+) -> bool
     ensures { result ≡ are_same_entries same_parts.is_same_text
-        (map (name_said names.now) (seats_of count)) (map (name_said others.now) (seats_of count)) }
+        (map (name_said names.now) (seats_of players.number))
+        (map (name_said others.now) (seats_of players.number)) }
 {
-    for index in 0..count as usize {
-        if !is_same_text(&names[index], &others[index]) {
+    for index in 0..players.number as usize {
+        if !are_equal_texts(&names[index], &others[index]) {
             return false;
         }
     }
     true
 }
 
-// The seat numbers at the table are the same for the first `count` seats. Numbers that are noted
-// are never the default ones.
-fn are_same_seats(count: u8, seats: &Option<[u8; 10]>, others: &Option<[u8; 10]>) -> bool
-    requires few { count ≤ 10 }
-    requires seats { IfSome seats.now (AreSeatNumbers count) }
-    requires others { IfSome others.now (AreSeatNumbers count) }
-    ensures { result ≡ same_parts.is_same_text (numbers_said count seats.now)
-        (numbers_said count others.now) }
+// The players' seat numbers at the table are the same. Numbers that are noted are never the default
+// ones.
+fn are_equal_seats(
+    players: PlayerCount,
+    seats: &Option<[u8; 10]>,
+    others: &Option<[u8; 10]>,
+) -> bool
+    requires seats { IfSome seats.now (AreSeatNumbers players.number) }
+    requires others { IfSome others.now (AreSeatNumbers players.number) }
+    ensures { result ≡ same_parts.is_same_text (numbers_said players.number seats.now)
+        (numbers_said players.number others.now) }
 {
     match (seats, others) {
-        (Some(a), Some(b)) => a[..count as usize] == b[..count as usize],
+        (Some(a), Some(b)) => { a[..players.number as usize] == b[..players.number as usize] }
         (None, None) => true,
         (Some(_), None) | (None, Some(_)) => false,
     }
 }
 
 // The names of two hands are the same. A name that is the hand's index counts as missing.
-fn is_same_label(index: usize, label: &Option<Text>, other: &Option<Text>) -> bool
+fn are_equal_labels(index: usize, label: &Option<Text>, other: &Option<Text>) -> bool
     ensures { result ≡ same_parts.is_same_text (hand_name_noted index label.now)
         (hand_name_noted index other.now) }
 {
@@ -166,7 +177,7 @@ fn is_decimal(text: &[u8], number: u64) -> bool
 }
 
 // Two optional texts are the same.
-fn is_same_text(a: &Option<Text>, b: &Option<Text>) -> bool
+fn are_equal_texts(a: &Option<Text>, b: &Option<Text>) -> bool
     ensures { result ≡ same_parts.is_same_text a.now b.now }
 {
     match (a, b) {
@@ -177,7 +188,7 @@ fn is_same_text(a: &Option<Text>, b: &Option<Text>) -> bool
 }
 
 // Two plain texts, each of which may be missing, are the same.
-fn are_same_texts(a: Option<&Text>, b: Option<&Text>) -> bool
+fn are_equal_plain_texts(a: Option<&Text>, b: Option<&Text>) -> bool
     ensures { result ≡ same_parts.is_same_text (option_map (λ text. text.now) a.entry)
         (option_map (λ text. text.now) b.entry) }
 {
@@ -189,7 +200,7 @@ fn are_same_texts(a: Option<&Text>, b: Option<&Text>) -> bool
 }
 
 // Two optional small numbers are the same.
-fn is_same_byte(a: Option<u8>, b: Option<u8>) -> bool
+fn are_equal_bytes(a: Option<u8>, b: Option<u8>) -> bool
     ensures { result ≡ is_same_number a b }
 {
     match (a, b) {
@@ -200,7 +211,7 @@ fn is_same_byte(a: Option<u8>, b: Option<u8>) -> bool
 }
 
 // Two optional years are the same.
-fn is_same_year(a: Option<u16>, b: Option<u16>) -> bool
+fn are_equal_years(a: Option<u16>, b: Option<u16>) -> bool
     ensures { result ≡ is_same_number a b }
 {
     match (a, b) {
@@ -211,7 +222,7 @@ fn is_same_year(a: Option<u16>, b: Option<u16>) -> bool
 }
 
 // Two optional times of day are the same.
-fn is_same_time(a: Option<Clock>, b: Option<Clock>) -> bool
+fn are_equal_times(a: Option<Clock>, b: Option<Clock>) -> bool
     ensures { result ≡ is_same_option is_same_clock a b }
 {
     match (a, b) {

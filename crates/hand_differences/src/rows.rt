@@ -9,28 +9,28 @@ use chip_ledger::Seat;
 use play_event::{Act, Move, Place};
 
 // Both are true, or both are false.
-pub(crate) fn is_same_test(a: bool, b: bool) -> bool
+pub(crate) fn are_equal_bools(a: bool, b: bool) -> bool
     ensures { result ≡ same_parts.is_same_test a b }
 {
     if a { b } else { !b }
 }
 
 // The moves are the same.
-pub(crate) fn is_same_move(a: &Move, b: &Move) -> bool
+pub(crate) fn are_equal_moves(a: &Move, b: &Move) -> bool
     ensures { result ≡ same_parts.is_same_move a.now b.now }
 {
     a.street == b.street
         && a.seat.number == b.seat.number
-        && is_same_act(a.act, b.act)
+        && are_equal_acts(a.act, b.act)
         && a.from == b.from
         && a.to == b.to
         && a.price == b.price
-        && is_same_test(a.closed, b.closed)
+        && are_equal_bools(a.closed, b.closed)
         && a.unit_to == b.unit_to
 }
 
 // The acts are the same.
-fn is_same_act(a: Act, b: Act) -> bool
+fn are_equal_acts(a: Act, b: Act) -> bool
     ensures { result ≡ same_parts.is_same_act a b }
 {
     match (a, b) {
@@ -43,17 +43,17 @@ fn is_same_act(a: Act, b: Act) -> bool
 }
 
 // The dealt cards are the same, with owner and streets.
-pub(crate) fn is_same_place(a: &Place, b: &Place) -> bool
+pub(crate) fn are_equal_places(a: &Place, b: &Place) -> bool
     ensures { result ≡ same_parts.is_same_place a.now b.now }
 {
-    is_same_owner(a.owner, b.owner)
+    are_equal_owners(a.owner, b.owner)
         && a.street == b.street
-        && is_same_slot(a.slot, b.slot)
+        && are_equal_slots(a.slot, b.slot)
         && a.gone == b.gone
 }
 
 // The owners are the same.
-fn is_same_owner(a: Option<Seat>, b: Option<Seat>) -> bool
+fn are_equal_owners(a: Option<Seat>, b: Option<Seat>) -> bool
     ensures { result ≡ places.is_same_owner (seat_named a) (seat_named b) }
 {
     match (a, b) {
@@ -64,7 +64,7 @@ fn is_same_owner(a: Option<Seat>, b: Option<Seat>) -> bool
 }
 
 // Both are the same known card, or both are unknown.
-fn is_same_slot(a: Slot, b: Slot) -> bool
+fn are_equal_slots(a: Slot, b: Slot) -> bool
     ensures { result ≡ same_parts.is_same_slot a b }
 {
     match (a, b) {

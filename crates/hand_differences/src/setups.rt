@@ -6,12 +6,12 @@ ghost use Rattle.hand_differences.specs.FirstDifference.{difference_said, first_
 ghost use Rattle.hand_differences.specs.FirstDifference as differences;
 
 use crate::difference::Difference;
-use crate::rows::is_same_test;
+use crate::rows::are_equal_bools;
 use chip_ledger::{RakeRow, SeatRow};
 use play_event::{Code, Setup};
 
 // The first part in which two setups differ.
-pub(crate) fn setup_difference(a: &Setup, b: &Setup) -> Option<Difference>
+pub(crate) fn find_setup_difference(a: &Setup, b: &Setup) -> Option<Difference>
     ensures named { option_map difference_said result ≡ first_holding (setup_rows a.now b.now) }
     ensures seats { IfNone result (a.now.stacks.seats ≡ b.now.stacks.seats) }
 {
@@ -24,10 +24,10 @@ pub(crate) fn setup_difference(a: &Setup, b: &Setup) -> Option<Difference>
     if are_other_amounts(&a.stacks, &b.stacks) {
         return Some(Difference::Stacks);
     }
-    if has_other_sizes(a, b) {
+    if differ_in_sizes(a, b) {
         return Some(Difference::BetSizes);
     }
-    if has_other_antes(a, b) {
+    if differ_in_antes(a, b) {
         return Some(Difference::Antes);
     }
     if are_other_amounts(&a.blinds, &b.blinds) {
@@ -54,7 +54,7 @@ fn are_other_amounts(a: &SeatRow, b: &SeatRow) -> bool
 }
 
 // One of the bet sizes differs.
-fn has_other_sizes(a: &Setup, b: &Setup) -> bool
+fn differ_in_sizes(a: &Setup, b: &Setup) -> bool
     ensures { result ≡ differences.has_other_sizes a.now b.now }
 {
     !(a.bring_in == b.bring_in
@@ -64,10 +64,10 @@ fn has_other_sizes(a: &Setup, b: &Setup) -> bool
 }
 
 // The antes differ, or whether they are dead.
-fn has_other_antes(a: &Setup, b: &Setup) -> bool
+fn differ_in_antes(a: &Setup, b: &Setup) -> bool
     ensures { result ≡ differences.has_other_antes a.now b.now }
 {
-    are_other_amounts(&a.antes, &b.antes) || !is_same_test(a.dead_antes, b.dead_antes)
+    are_other_amounts(&a.antes, &b.antes) || !are_equal_bools(a.dead_antes, b.dead_antes)
 }
 
 // The rake of some pot differs.

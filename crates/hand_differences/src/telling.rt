@@ -11,7 +11,7 @@ use std::alloc::Global;
 
 /// The text of a difference, such as `move 3, street 1, p2`, `card 9, street 2, board` or `Note
 /// players`.
-pub fn difference_text(alloc: Global, difference: Difference) -> Result<String, Memory>
+pub fn write_difference(alloc: Global, difference: Difference) -> Result<String, Memory>
     ensures { IfOk result
         (λ text. string_bytes text ≡ texts.difference_text (difference_said difference)) }
 {
@@ -35,7 +35,7 @@ pub fn difference_text(alloc: Global, difference: Difference) -> Result<String, 
             number,
             street,
             owner,
-        } => return card_text(alloc, number, street, owner),
+        } => return write_card(alloc, number, street, owner),
         Difference::Shown(seat) => {
             let seat = seat.number;
             return try_format!(in alloc; "shown p{seat}");
@@ -48,7 +48,7 @@ pub fn difference_text(alloc: Global, difference: Difference) -> Result<String, 
 }
 
 // The text of a dealt card that differs.
-fn card_text(
+fn write_card(
     alloc: Global,
     number: usize,
     street: u8,
@@ -57,13 +57,13 @@ fn card_text(
     ensures { IfOk result (λ text. string_bytes text
         ≡ texts.difference_text (Card number street (seat_named owner))) }
 {
-    let owner = owner_text(alloc, owner)?;
+    let owner = write_owner(alloc, owner)?;
     let owner = owner.as_str();
     try_format!(in alloc; "card {number}, street {street}, {owner}")
 }
 
 // The text of a card's owner.
-fn owner_text(alloc: Global, owner: Option<Seat>) -> Result<String, Memory>
+fn write_owner(alloc: Global, owner: Option<Seat>) -> Result<String, Memory>
     ensures { IfOk result (λ text. string_bytes text ≡ texts.owner_text (seat_named owner)) }
 {
     match owner {

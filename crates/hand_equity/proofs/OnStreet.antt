@@ -7,7 +7,7 @@ use Rattle.card_set.specs.declared.card.Slot.{Slot}
 use Rattle.card_set.specs.declared.row.CardRow.{CardRow}
 use Rattle.card_set.specs.declared.set.CardSet.{CardSet}
 use Rattle.card_set.specs.CardSet.{is_in, is_one_of}
-use Rattle.card_set.specs.Known.{is_unknown, known_cards}
+use Rattle.card_set.specs.Known.{hides_card, known_among}
 use Rattle.card_set.specs.Row.{cards_of}
 use Rattle.play_event.specs.CanonScript.{dealt_slots, held_slots}
 use Rattle.chip_ledger.specs.declared.live_row.LiveRow.{LiveRow}
@@ -50,24 +50,24 @@ gathered trace street hands live moves all same_moves same_places seats flags he
 }
 
 -- the same seat is the first with an unknown card
-pub same_unknown : (trace : Trace) (street : ℕ) (hands : HandRow) (live : LiveRow) → AreGathered trace street hands live → find (λ n. flag_of live n && list_any is_unknown (slots_of_hand hands n)) (seats_of live.seats) ≡ first_unknown trace street
+pub same_unknown : (trace : Trace) (street : ℕ) (hands : HandRow) (live : LiveRow) → AreGathered trace street hands live → find (λ n. flag_of live n && list_any hides_card (slots_of_hand hands n)) (seats_of live.seats) ≡ first_unknown trace street
 same_unknown trace street hands live are =
-    ap (λ (s : ℕ). find (λ n. flag_of live n && list_any is_unknown (slots_of_hand hands n)) (seats_of s)) are.seats
-    ∙ find_agree (λ n. flag_of live n && list_any is_unknown (slots_of_hand hands n)) (is_unknown_seat trace street) 1 trace.setup.stacks.seats (λ n least most.
-    ap (λ (b : Bool). b && list_any is_unknown (slots_of_hand hands n)) (are.flags n least (omega (arith, most)))
-    ∙ ap (λ (l : List Slot). is_live_on trace street n && list_any is_unknown l) (are.held n least))
+    ap (λ (s : ℕ). find (λ n. flag_of live n && list_any hides_card (slots_of_hand hands n)) (seats_of s)) are.seats
+    ∙ find_agree (λ n. flag_of live n && list_any hides_card (slots_of_hand hands n)) (is_unknown_seat trace street) 1 trace.setup.stacks.seats (λ n least most.
+    ap (λ (b : Bool). b && list_any hides_card (slots_of_hand hands n)) (are.flags n least (omega (arith, most)))
+    ∙ ap (λ (l : List Slot). is_live_on trace street n && list_any hides_card l) (are.held n least))
 
 -- and the cards on the table are the same
-pub same_table : (trace : Trace) (street : ℕ) (hands : HandRow) (live : LiveRow) (board : CardRow) (dead : CardSet) (all : List places.Place) → AreGathered trace street hands live → all ≡ trace.places → cards_of board ≡ known_cards (board_slots (map place_said all) street) → ((card : Card) → is_in dead card ≡ list_any (λ seat. not (flag_of live seat) && is_one_of card (holding hands seat)) (seats_of live.seats)) → AreSame (standing_of hands live board dead) (standing_on trace street)
+pub same_table : (trace : Trace) (street : ℕ) (hands : HandRow) (live : LiveRow) (board : CardRow) (dead : CardSet) (all : List places.Place) → AreGathered trace street hands live → all ≡ trace.places → cards_of board ≡ known_among (board_slots (map place_said all) street) → ((card : Card) → is_in dead card ≡ list_any (λ seat. not (flag_of live seat) && is_one_of card (holding hands seat)) (seats_of live.seats)) → AreSame (standing_of hands live board dead) (standing_on trace street)
 same_table trace street hands live board dead all are same_places board_is dead_is = record {
   seats = are.seats;
   live = λ n inside. are.flags n inside.first (subst (λ (s : ℕ). n ≤ s) are.seats inside.last);
-  holding = λ n inside. ap known_cards (are.held n inside.first);
-  board = board_is ∙ ap (λ (l : List places.Place). known_cards (board_slots (map place_said l) street)) same_places;
+  holding = λ n inside. ap known_among (are.held n inside.first);
+  board = board_is ∙ ap (λ (l : List places.Place). known_among (board_slots (map place_said l) street)) same_places;
   dead = λ card.
       dead_is card
       ∙ ap (λ (s : ℕ). list_any (λ seat. not (flag_of live seat) && is_one_of card (holding hands seat)) (seats_of s)) are.seats
       ∙ any_seats (λ seat. not (flag_of live seat) && is_one_of card (holding hands seat)) (λ seat. not (is_live_on trace street seat) && is_one_of card (cards_of_seat trace seat)) trace.setup.stacks.seats (λ n least most.
       ap (λ (b : Bool). not b && is_one_of card (holding hands n)) (are.flags n least most)
-      ∙ ap (λ (l : List Slot). not (is_live_on trace street n) && is_one_of card (known_cards l)) (are.held n least));
+      ∙ ap (λ (l : List Slot). not (is_live_on trace street n) && is_one_of card (known_among l)) (are.held n least));
 }

@@ -5,7 +5,7 @@ use Rattle.std.proofs.lemmas.Bool.{and_parts, leb-true, ltb-true}
 use Rattle.card_set.specs.declared.card.Slot.{Slot}
 use Rattle.card_set.specs.declared.card.Slot.TheVariants as slots
 use Rattle.card_set.specs.Different.{AllDifferent}
-use Rattle.card_set.specs.Known.{is_unknown, known_cards}
+use Rattle.card_set.specs.Known.{hides_card, known_among}
 use Rattle.card_set.proofs.KnownCards.{all_known_length}
 use Rattle.canon_laws.proofs.TidyTraces.{tidy_cards}
 use Rattle.play_event.specs.CanonScript.{dealt_slots, held_slots}
@@ -40,7 +40,7 @@ use Rattle.hand_equity.proofs.DealtHands.{AreFlopEvents, board_few, board_is, he
 use Rattle.hand_equity.proofs.FlopGames.{IsFlopGame, flop_game}
 use Rattle.hand_equity.proofs.SomeLive.{folded_rows, some_live}
 
-known_few : (cards : List Slot) → length (known_cards cards) ≤ length cards
+known_few : (cards : List Slot) → length (known_among cards) ≤ length cards
 known_few [] = omega arith
 known_few (slots.Known card ∷ rest) = omega (arith, known_few rest)
 known_few (slots.Unknown ∷ rest) = omega (arith, known_few rest)
@@ -104,7 +104,7 @@ among_either : (placed : List Place) (mine its : Place → Bool) (place : Place)
 among_either placed mine its place among =
     elim (among_append (filter mine placed) (filter its placed) place among) [ inl here ↦ (passed mine placed place here).among | inr there ↦ (passed its placed place there).among ]
 
-different_cards : (play : Play) (street seat : ℕ) → IsSound play → IsDealtOn play street → IsSeatOf play.trace.setup.stacks.seats seat → AllDifferent (known_cards (held_slots (traced play.trace) seat) ++ known_cards (board_slots (traced play.trace) street))
+different_cards : (play : Play) (street seat : ℕ) → IsSound play → IsDealtOn play street → IsSeatOf play.trace.setup.stacks.seats seat → AllDifferent (known_among (held_slots (traced play.trace) seat) ++ known_among (board_slots (traced play.trace) street))
 different_cards play street seat sound on inside =
     let setup = play.hand.setup in
     let rules = play.hand.rules in
@@ -112,9 +112,9 @@ different_cards play street seat sound on inside =
     let are = flop_events play street sound on in
     let seats = hand_seat play seat sound inside in
     let placed = places_of setup.code (past_of setup events) in
-    subst (λ (places : List TracedPlace). AllDifferent (known_cards (held_slots places seat) ++ known_cards (board_slots places street))) (sym (same_places play sound))
-    (subst (λ (held : List Slot). AllDifferent (known_cards held ++ known_cards (board_slots (traced_places setup (past_of setup events)) street))) (sym (held_places setup rules events seat are seats.first seats.last))
-    (subst (λ (board : List Slot). AllDifferent (known_cards (map slot_of (filter (is_out_of 0 seat) placed)) ++ known_cards board)) (sym (board_is setup rules events street are on.most))
+    subst (λ (places : List TracedPlace). AllDifferent (known_among (held_slots places seat) ++ known_among (board_slots places street))) (sym (same_places play sound))
+    (subst (λ (held : List Slot). AllDifferent (known_among held ++ known_among (board_slots (traced_places setup (past_of setup events)) street))) (sym (held_places setup rules events seat are seats.first seats.last))
+    (subst (λ (board : List Slot). AllDifferent (known_among (map slot_of (filter (is_out_of 0 seat) placed)) ++ known_among board)) (sym (board_is setup rules events street are on.most))
     (both_different placed (is_out_of 0 seat) (is_before None (street + 1)) seat
     (rising 0 placed (legal_cards setup rules events are.legal).list.numbered)
     (λ a b in_a in_b apart. dealt_once setup rules events a b are.legal are.game.no_draw (among_either placed (is_out_of 0 seat) (is_before None (street + 1)) a in_a) (among_either placed (is_out_of 0 seat) (is_before None (street + 1)) b in_b) apart)
@@ -122,11 +122,11 @@ different_cards play street seat sound on inside =
     (λ place is. (and_parts (is_same_owner place.owner None) (nat_lt place.street (street + 1)) is).0))))
 
 -- a live seat has no unknown card, if no seat is named
-all_known : (play : Play) (street seat : ℕ) → first_unknown play.trace street ≡ None → IsSeatOf play.trace.setup.stacks.seats seat → is_live_on play.trace street seat ≡ true → list_any is_unknown (held_slots (traced play.trace) seat) ≡ false
+all_known : (play : Play) (street seat : ℕ) → first_unknown play.trace street ≡ None → IsSeatOf play.trace.setup.stacks.seats seat → is_live_on play.trace street seat ≡ true → list_any hides_card (held_slots (traced play.trace) seat) ≡ false
 all_known play street seat none inside live =
     let seats = play.trace.setup.stacks.seats in
     let never = find_none (is_unknown_seat play.trace street) 1 seats seat (ap is_some none) inside.first (omega (arith, inside.last)) in
-    sym (ap (λ (b : Bool). b && list_any is_unknown (held_slots (traced play.trace) seat)) live) ∙ never
+    sym (ap (λ (b : Bool). b && list_any hides_card (held_slots (traced play.trace) seat)) live) ∙ never
 
 -- a seat is live when the board of a street is dealt
 live_seat : (play : Play) (street : ℕ) → IsSound play → IsDealtOn play street → (seat : ℕ) × IsLive (standing_on play.trace street).hands seat

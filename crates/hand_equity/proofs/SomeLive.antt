@@ -16,7 +16,7 @@ use Rattle.play_event.specs.declared.played.Move as rows
 use Rattle.play_event.specs.declared.setup.Rules.{Rules}
 use Rattle.play_event.specs.declared.setup.Setup.{Setup}
 use Rattle.play_event.specs.Dealing.{board_cards_dealt}
-use Rattle.play_event.specs.Past.{Boarded, Dealt, Discarded, Move, Moved, Mucked, Past, Shown, is_fold, moves_before, moves_of}
+use Rattle.play_event.specs.Past.{Boarded, Dealt, Discarded, Move, Moved, Mucked, Past, Shown, is_folding, moves_before, moves_of}
 use Rattle.play_event.specs.Places.{group_of}
 use Rattle.play_event.specs.Played.{move_said}
 use Rattle.play_event.specs.Said.{Said}
@@ -67,7 +67,7 @@ some_live setup rules events street are least most some =
 pub folded_rows : (setup : Setup) (street seat : ℕ) (played : List rows.Move) (moves : List Move) → map move_said played ≡ traced_moves setup moves
     → is_live (moves_before street moves) seat ≡ not (list_any (is_fold_before street seat) played)
 folded_rows setup street seat played moves same =
-    let folds : Move → Bool = λ move. is_fold move.act && (move.seat == seat) in
+    let folds : Move → Bool = λ move. is_folding move.act && (move.seat == seat) in
     let before : Move → Bool = λ move. nat_lt move.street street in
     let plain : moves ≡ plain_moves (map move_said played) = sym (plain_again setup moves) ∙ ap plain_moves (sym same) in
     ap not (list_any-filter folds before moves

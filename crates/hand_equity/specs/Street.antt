@@ -4,7 +4,7 @@ use Rattle.std.specs.List.{list_any, range_with_len}
 use Rattle.card_set.specs.declared.card.Card.{Card}
 use Rattle.card_set.specs.declared.card.Slot.{Slot}
 use Rattle.card_set.specs.CardSet.{is_one_of}
-use Rattle.card_set.specs.Known.{is_unknown, known_cards}
+use Rattle.card_set.specs.Known.{hides_card, known_among}
 use Rattle.chip_ledger.specs.Seat.{seats_of}
 use Rattle.play_event.specs.CanonScript.{dealt_slots, held_slots}
 use Rattle.hand_canon.specs.RowTests.{is_fold_before}
@@ -28,7 +28,7 @@ is_live_on trace street seat = not (list_any (is_fold_before street seat) trace.
 
 -- the known cards that a seat has at the end of the hand, or had when it folded
 abbrev pub cards_of_seat : Trace → ℕ → List Card
-cards_of_seat trace seat = known_cards (held_slots (traced trace) seat)
+cards_of_seat trace seat = known_among (held_slots (traced trace) seat)
 
 -- the board, of all streets up to this one
 abbrev pub board_slots : List TracedPlace → ℕ → List Slot
@@ -49,7 +49,7 @@ standing_on trace street = record {
     live = is_live_on trace street;
     holding = cards_of_seat trace;
   };
-  board = known_cards (board_slots (traced trace) street);
+  board = known_among (board_slots (traced trace) street);
   dead = is_folded_card trace street;
 }
 
@@ -62,7 +62,7 @@ deals_board trace street =
 -- a live seat has a card that stayed unknown
 abbrev pub is_unknown_seat : Trace → ℕ → ℕ → Bool
 is_unknown_seat trace street seat =
-    is_live_on trace street seat && list_any is_unknown (held_slots (traced trace) seat)
+    is_live_on trace street seat && list_any hides_card (held_slots (traced trace) seat)
 
 -- the first such seat
 abbrev pub first_unknown : Trace → ℕ → Option ℕ

@@ -1,7 +1,7 @@
 //! The board of a trace up to a street, and which seats are live when the street begins.
 ghost use Rattle.std.specs.Prelude.{◌≡◌, ◌≤◌, ℕ, not, None, length, map, nat_lt};
 ghost use Rattle.std.specs.List.{list_any};
-ghost use Rattle.card_set.specs.Known.{known_cards};
+ghost use Rattle.card_set.specs.Known.{known_among};
 ghost use Rattle.card_set.specs.Row.{cards_of};
 ghost use Rattle.chip_ledger.specs.LiveRow.{flag_of};
 ghost use Rattle.play_event.specs.CanonScript.{dealt_slots};
@@ -10,7 +10,7 @@ ghost use Rattle.hand_canon.specs.TraceRows.{place_said};
 ghost use Rattle.hand_equity.specs.Street.{board_slots};
 
 use card_set::{CardRow, SlotRow};
-use chip_ledger::{LiveRow, Seat};
+use chip_ledger::{LiveRow, PlayerCount, Seat};
 use hand_canon::{board_with_street, folds_before};
 use play_event::{Move, Place};
 
@@ -31,7 +31,7 @@ pub fn deals_on(places: &[Place], street: u8) -> bool
 /// The known cards of the board, of all streets up to this one.
 pub fn board_up_to(places: &[Place], street: u8) -> CardRow
     requires { length (board_slots (map place_said places.now) street) ≤ 7 }
-    ensures { cards_of result ≡ known_cards (board_slots (map place_said places.now) street) }
+    ensures { cards_of result ≡ known_among (board_slots (map place_said places.now) street) }
 {
     let mut board = SlotRow::new();
     for index in 0..street {
@@ -40,17 +40,15 @@ pub fn board_up_to(places: &[Place], street: u8) -> CardRow
     board.known_cards()
 }
 
-/// Which of the first `seats` seats did not fold before a street.
-pub fn live_before(moves: &[Move], street: u8, seats: u8) -> LiveRow
-    requires least { 2 ≤ seats }
-    requires greatest { seats ≤ 10 }
-    ensures seats { result.seats ≡ seats }
-    ensures flags { (n : ℕ) → 1 ≤ n → n ≤ seats
+/// Which of the players did not fold before a street.
+pub fn live_before(moves: &[Move], street: u8, players: PlayerCount) -> LiveRow
+    ensures seats { result.seats ≡ players.number }
+    ensures flags { (n : ℕ) → 1 ≤ n → n ≤ players.number
         → flag_of result n ≡ not (list_any (is_fold_before street n) moves.now) }
 {
     let folded = folds_before(moves, street);
-    let mut live = LiveRow::new(seats);
-    for index in 0..seats {
+    let mut live = LiveRow::new(players.number);
+    for index in 0..players.number {
         let seat = Seat { number: index + 1 };
         live.set(seat, !folded.get(seat));
     }

@@ -60,7 +60,7 @@ fn equity_in<V: Variant>(trace: &Trace, street: u8) -> Result<EquityRow, NoEquit
     if street < 2 || 4 < street || !deals_on(trace.places.as_slice(), street) {
         return Err(NoEquity::NoStreet);
     }
-    let live = live_before(trace.moves.as_slice(), street, trace.setup.stacks.seats);
+    let live = live_before(trace.moves.as_slice(), street, trace.setup.stacks.players());
     let hands = held_by_seats(trace.places.as_slice());
     if let Some(seat) = unknown_seat(&hands, &live) {
         return Err(NoEquity::UnknownCards(seat));

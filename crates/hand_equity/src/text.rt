@@ -25,7 +25,7 @@ pub fn equity_text(
         ≡ equity_said hand street play.now.trace row.now) }
 {
     let trace = &play.trace;
-    let live = live_before(trace.moves.as_slice(), street, trace.setup.stacks.seats);
+    let live = live_before(trace.moves.as_slice(), street, trace.setup.stacks.players());
     let split = table_of(trace.setup.code).split;
     let mut text = String::new(alloc);
     push_total(&mut text, hand, street, row)?;

@@ -6,7 +6,7 @@ use Rattle.std.specs.Option.{option_map}
 use Rattle.std.proofs.lemmas.Bool.{and_parts, eq-eqb, eqb-true, le-ltb, ltb-true, not-true}
 use Rattle.card_set.specs.declared.card.Slot.{Slot}
 use Rattle.card_set.specs.declared.card.Slot.TheVariants as slots
-use Rattle.card_set.specs.Known.{is_unknown}
+use Rattle.card_set.specs.Known.{hides_card}
 use Rattle.card_set.proofs.Any.{none_passes}
 use Rattle.card_set.proofs.Tests.{false_true}
 use Rattle.play_event.specs.declared.event.Spelled.TheVariants as spelled
@@ -30,7 +30,7 @@ use Rattle.play_event.specs.Said as said
 use Rattle.play_event.specs.Said.{Said}
 use Rattle.play_event.specs.Scripts.{past_of, resolved_on, with_event}
 use Rattle.play_event.specs.Seats.{able_count}
-use Rattle.play_event.specs.Streets.{is_stud, opener_of}
+use Rattle.play_event.specs.Streets.{is_stud_game, opener_of}
 use Rattle.play_event.specs.Table.{places_of, up_cards}
 use Rattle.play_event.specs.Targets.{greatest_target, is_legal_target, least_target}
 use Rattle.play_event.specs.TurnTargets.{is_bet_due}
@@ -78,7 +78,7 @@ player_to_act_known setup ups moves street known =
     first_known setup (has_to_move setup moves street) (next_in_turn setup (opener_by (opener_of setup.code) setup ups moves street) (moves_on street moves))
     (next_known setup (opener_by (opener_of setup.code) setup ups moves street) (moves_on street moves) (opener_known (opener_of setup.code) setup ups moves street known))
 
-none_unknown : (found : List Slot) → AreKnown found → list_any is_unknown found ≡ false
+none_unknown : (found : List Slot) → AreKnown found → list_any hides_card found ≡ false
 none_unknown [] known = refl
 none_unknown (slots.Known card ∷ rest) known = none_unknown rest known
 none_unknown (slots.Unknown ∷ rest) known = absurd known
@@ -103,9 +103,9 @@ record IsToOpen (moves : List Move) (street : ℕ) : Type 0 where
 to_open : (setup : Setup) (moves : List Move) (street : ℕ) → is_bring_in_due setup moves street ≡ true → IsToOpen moves street
 to_open setup moves street is =
     let opened : Bool = list_any (λ (m : Move). has_opened_betting m.act) (moves_on street moves) in
-    let most = and_parts (is_stud setup.code && (street == 1) && nat_le 2 (able_count setup moves)) (not opened) is in
-    let some = and_parts (is_stud setup.code && (street == 1)) (nat_le 2 (able_count setup moves)) most.0 in
-    let first = and_parts (is_stud setup.code) (street == 1) some.0 in
+    let most = and_parts (is_stud_game setup.code && (street == 1) && nat_le 2 (able_count setup moves)) (not opened) is in
+    let some = and_parts (is_stud_game setup.code && (street == 1)) (nat_le 2 (able_count setup moves)) most.0 in
+    let first = and_parts (is_stud_game setup.code) (street == 1) some.0 in
     let one : street ≡ 1 = eqb-true street 1 first.1 in
     record { first = one; unopened = subst (λ (s : ℕ). list_any (λ (m : Move). has_opened_betting m.act) (moves_on s moves) ≡ false) one (not-true opened most.1) }
 
@@ -122,7 +122,7 @@ module _ (setup : Setup) (valid : IsValid setup) (four : setup.stacks.seats ≤ 
   -- the player to act
   ups_known : has_unknown_up_card setup (up_cards setup.code now) moves ≡ false
   ups_known =
-      none_passes (λ seat. list_any is_unknown (up_cards setup.code now seat)) (able_seats setup moves) (λ seat.
+      none_passes (λ seat. list_any hides_card (up_cards setup.code now seat)) (able_seats setup moves) (λ seat.
       none_unknown (up_cards setup.code now seat) (kept_known (λ place. is_held_by seat place && is_up setup.code place) (places_of setup.code now) (all_known setup four events stock going)))
 
   pub now_due : (street : ℕ) (due : Due) → turn setup now ≡ (street, due) → is_unfinished due ≡ true → IsDue setup now street due

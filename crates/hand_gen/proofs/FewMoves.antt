@@ -9,7 +9,7 @@ use Rattle.card_set.proofs.Tests.{false_true, or_right}
 use Rattle.play_event.specs.declared.setup.Setup.{Setup}
 use Rattle.play_event.specs.Chips.{chips_left}
 use Rattle.play_event.specs.Due.{has_opened_betting}
-use Rattle.play_event.specs.Past.{Move, is_fold, moves_on}
+use Rattle.play_event.specs.Past.{Move, is_folding, moves_on}
 use Rattle.play_event.specs.Raising.{has_moved}
 use Rattle.play_event.specs.Seats.{is_live}
 use Rattle.play_event.proofs.StillAble.{still_live}
@@ -84,7 +84,7 @@ module _ (setup : Setup) (move : Move) (moves : List Move) where
 -- what a move takes
 pub data Takes (setup : Setup) (move : Move) (moves : List Move) : Type 0 where
   chips : 1 ≤ chips_left setup moves move.seat → move.from < move.to → Takes setup move moves
-  hand : is_live moves move.seat ≡ true → is_fold move.act ≡ true → Takes setup move moves
+  hand : is_live moves move.seat ≡ true → is_folding move.act ≡ true → Takes setup move moves
   first : 1 ≤ move.street → move.street ≤ 5 → has_moved moves move.street move.seat ≡ false → Takes setup move moves
   opens : move.street ≡ 1 → has_opened_betting move.act ≡ true → list_any (λ (m : Move). has_opened_betting m.act) (moves_on 1 moves) ≡ false → Takes setup move moves
 
@@ -105,7 +105,7 @@ one_less setup move moves low high takes = by_kind takes
         let fewer : chips_left setup (move ∷ moves) move.seat + 1 ≤ chips_left setup moves move.seat = omega (arith, added, some, up) in
         from_stake (omega (arith, fewer, live_less setup move moves move.seat, all_firsts_less setup move moves move.seat))
     by_kind (hand live folds) =
-        let gone : is_live (move ∷ moves) move.seat ≡ false = ap (λ b. not ((b && (move.seat == move.seat)) || list_any (λ (m : Move). is_fold m.act && (m.seat == move.seat)) moves)) folds ∙ ap (λ b. not (b || list_any (λ (m : Move). is_fold m.act && (m.seat == move.seat)) moves)) own in
+        let gone : is_live (move ∷ moves) move.seat ≡ false = ap (λ b. not ((b && (move.seat == move.seat)) || list_any (λ (m : Move). is_folding m.act && (m.seat == move.seat)) moves)) folds ∙ ap (λ b. not (b || list_any (λ (m : Move). is_folding m.act && (m.seat == move.seat)) moves)) own in
         from_stake (omega (arith, chips_less setup move moves move.seat, bit_falls (is_live (move ∷ moves) move.seat) (is_live moves move.seat) gone live, all_firsts_less setup move moves move.seat))
     by_kind (first one five unmoved) =
         let now : has_moved (move ∷ moves) move.street move.seat ≡ true = some_now (λ (m : Move). m.seat == move.seat) move move.street moves refl own in

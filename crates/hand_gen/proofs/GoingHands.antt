@@ -8,7 +8,7 @@ use Rattle.card_set.specs.declared.card.Slot.{Slot}
 use Rattle.card_set.specs.declared.card.Slot.TheVariants as slots
 use Rattle.card_set.specs.Deck.{is_same_card}
 use Rattle.card_set.specs.Known.{known_slots}
-use Rattle.play_event.specs.PlayedScript.{is_move}
+use Rattle.play_event.specs.PlayedScript.{is_move_event}
 use Rattle.card_set.proofs.Counting.{count_both, count_by-cons, count_by-joined}
 use Rattle.play_event.specs.declared.reason.Due.{Due}
 use Rattle.play_event.specs.declared.reason.Due.TheVariants as dues
@@ -18,7 +18,7 @@ use Rattle.play_event.specs.Due.{turn}
 use Rattle.play_event.specs.HistoryRules.{history_rules}
 use Rattle.play_event.specs.Laws.{AreLegal}
 use Rattle.play_event.specs.NameMatching.{after_discard}
-use Rattle.play_event.specs.Past.{Act, Boarded, Dealt, Discarded, Move, Moved, Past, Resolved, is_fold, moves_of}
+use Rattle.play_event.specs.Past.{Act, Boarded, Dealt, Discarded, Move, Moved, Past, Resolved, is_folding, moves_of}
 use Rattle.play_event.specs.Places.{Place, after_fold, is_held_by}
 use Rattle.play_event.specs.Reasons.{is_due_kind, is_over, why}
 use Rattle.play_event.specs.Said as said
@@ -59,7 +59,7 @@ pub record IsDealtFrom (setup : Setup) (past : Past) (deck : List Card) : Type 0
   pub unmucked : (seat : ℕ) → has_mucked past seat ≡ false
 
 abbrev pub is_other : Said → Bool
-is_other event = not (is_move event)
+is_other event = not (is_move_event event)
 
 -- and of its events, the newest first
 pub record IsGoing (setup : Setup) (events : List Said) (deck : List Card) : Type 0 where
@@ -234,14 +234,14 @@ module _ (setup : Setup) (four : setup.stacks.seats ≤ 4) (events : List Said) 
       })
 
   -- a move
-  pub move_goes : (street seat : ℕ) (act : Act) (target : ℕ) (event : Said) → IsSeatOf setup.stacks.seats seat → is_move event ≡ true → Takes setup (made_to setup (moves_of now) street seat act target) (moves_of now) → with_event setup event now ≡ Moved (made_to setup (moves_of now) street seat act target) ∷ now → why setup history_rules now event ≡ None → IsGoing setup (event ∷ events) stock.deck
+  pub move_goes : (street seat : ℕ) (act : Act) (target : ℕ) (event : Said) → IsSeatOf setup.stacks.seats seat → is_move_event event ≡ true → Takes setup (made_to setup (moves_of now) street seat act target) (moves_of now) → with_event setup event now ≡ Moved (made_to setup (moves_of now) street seat act target) ∷ now → why setup history_rules now event ≡ None → IsGoing setup (event ∷ events) stock.deck
   move_goes street seat act target event in_hand moving takes comes legal =
       let move : Move = made_to setup (moves_of now) street seat act target in
       more event (Moved move) stock.deck comes legal
       (omega (arith, going.others, count_by-cons is_other event events, ap {B = ℕ} (λ b. cond (not b) 1 0) moving))
       (record {
         dealt = state.dealt;
-        lie = by_fold (is_fold act);
+        lie = by_fold (is_folding act);
         cards = state.cards;
         out = state.out;
         few = move_few setup now move state.few;

@@ -8,7 +8,7 @@ use Rattle.std.proofs.lemmas.List.Sums.{length-filter}
 use Rattle.card_set.specs.declared.card.Card.{Card}
 use Rattle.card_set.specs.declared.card.Slot.{Slot}
 use Rattle.card_set.specs.declared.card.Slot.TheVariants as slots
-use Rattle.card_set.specs.Known.{is_unknown, known_cards, known_slots}
+use Rattle.card_set.specs.Known.{hides_card, known_among, known_slots}
 use Rattle.card_set.proofs.DeckLaws.{is_same_card-self}
 use Rattle.play_event.specs.declared.code.Code.{Code}
 use Rattle.play_event.specs.CardReasons.{has_no_place}
@@ -30,7 +30,7 @@ pub cards_known : (cards : List Card) → AreKnown (known_slots cards)
 cards_known [] = tt
 cards_known (card ∷ rest) = cards_known rest
 
-first_known : (slot : Slot) (rest : List Slot) → AreKnown (slot ∷ rest) → is_unknown slot ≡ false
+first_known : (slot : Slot) (rest : List Slot) → AreKnown (slot ∷ rest) → hides_card slot ≡ false
 first_known (slots.Known card) rest known = refl
 first_known slots.Unknown rest known = absurd known
 
@@ -39,10 +39,10 @@ rest_known (slots.Known card) rest known = known
 rest_known slots.Unknown rest known = absurd known
 
 -- so no slot is unknown
-pub none_unknown : (placed : List Place) → AreKnown (borne placed) → list_any (λ (place : Place). is_unknown place.slot) placed ≡ false
+pub none_unknown : (placed : List Place) → AreKnown (borne placed) → list_any (λ (place : Place). hides_card place.slot) placed ≡ false
 none_unknown [] known = refl
 none_unknown (place ∷ rest) known =
-    or_from (is_unknown place.slot) (list_any (λ (p : Place). is_unknown p.slot) rest) (first_known place.slot (borne rest) known) (none_unknown rest (rest_known place.slot (borne rest) known))
+    or_from (hides_card place.slot) (list_any (λ (p : Place). hides_card p.slot) rest) (first_known place.slot (borne rest) known) (none_unknown rest (rest_known place.slot (borne rest) known))
 
 -- those that are kept are known too
 pub kept_known : (q : Place → Bool) (placed : List Place) → AreKnown (borne placed) → AreKnown (borne (filter q placed))
@@ -102,14 +102,14 @@ names_borne covers mark names others blanks (place ∷ rest) marks known =
 
 pub discard_borne : (street seat : ℕ) (names : List Slot) (placed : List Place) → AreKnown (borne placed) → borne (after_discard street seat names placed) ≡ borne placed
 discard_borne street seat names placed known =
-    names_borne (is_held_by seat) (discarded_now street (length placed)) (known_cards names) (unmatched_names (filter (is_held_by seat) placed) (known_cards names)) (blanks_in names) placed (λ place. refl) known
+    names_borne (is_held_by seat) (discarded_now street (length placed)) (known_among names) (unmatched_names (filter (is_held_by seat) placed) (known_among names)) (blanks_in names) placed (λ place. refl) known
 
 -- and no card becomes known if all are
 none_new : (olds news : List Place) → AreKnown (borne olds) → newly_known olds news ≡ []
 none_new [] news known = refl
 none_new (old ∷ olds) [] known = refl
 none_new (old ∷ olds) (new ∷ news) known =
-    ap (λ b. if b && not (is_unknown new.slot) then (new ∷ newly_known olds news) else newly_known olds news) (first_known old.slot (borne olds) known)
+    ap (λ b. if b && not (hides_card new.slot) then (new ∷ newly_known olds news) else newly_known olds news) (first_known old.slot (borne olds) known)
     ∙ none_new olds news (rest_known old.slot (borne olds) known)
 
 pub none_misplaced : (code : Code) (olds news : List Place) → AreKnown (borne olds) → has_misplaced_card code olds news ≡ false
@@ -120,30 +120,30 @@ without_none : (slot : Slot) → without_name slot [] ≡ []
 without_none slots.Unknown = refl
 without_none (slots.Known card) = refl
 
-none_other : (covered : List Place) (count : ℕ) → AreKnown (borne covered) → unmatched_names covered (known_cards (take count (borne covered))) ≡ []
+none_other : (covered : List Place) (count : ℕ) → AreKnown (borne covered) → unmatched_names covered (known_among (take count (borne covered))) ≡ []
 none_other [] zero known = refl
 none_other [] (suc count) known = refl
 none_other (place ∷ rest) zero known = ap (unmatched_names rest) (without_none place.slot) ∙ none_other rest zero (rest_known place.slot (borne rest) known)
 none_other (place ∷ rest) (suc count) known = by_slot place.slot known (none_other rest count)
   where
-    by_slot : (slot : Slot) → AreKnown (slot ∷ borne rest) → (AreKnown (borne rest) → unmatched_names rest (known_cards (take count (borne rest))) ≡ []) → unmatched_names rest (without_name slot (known_cards (slot ∷ take count (borne rest)))) ≡ []
+    by_slot : (slot : Slot) → AreKnown (slot ∷ borne rest) → (AreKnown (borne rest) → unmatched_names rest (known_among (take count (borne rest))) ≡ []) → unmatched_names rest (without_name slot (known_among (slot ∷ take count (borne rest)))) ≡ []
     by_slot (slots.Known card) now later =
-        ap (λ b. unmatched_names rest (if b then known_cards (take count (borne rest)) else (card ∷ without_name (slots.Known card) (known_cards (take count (borne rest)))))) (is_same_card-self card) ∙ later now
+        ap (λ b. unmatched_names rest (if b then known_among (take count (borne rest)) else (card ∷ without_name (slots.Known card) (known_among (take count (borne rest)))))) (is_same_card-self card) ∙ later now
     by_slot slots.Unknown now later = absurd now
 
 none_blank : (found : List Slot) (count : ℕ) → AreKnown found → blanks_in (take count found) ≡ 0
-none_blank found count known = sym (length-filter is_unknown (take count found)) ∙ kept found count known
+none_blank found count known = sym (length-filter hides_card (take count found)) ∙ kept found count known
   where
-    kept : (found : List Slot) (count : ℕ) → AreKnown found → length (filter is_unknown (take count found)) ≡ 0
+    kept : (found : List Slot) (count : ℕ) → AreKnown found → length (filter hides_card (take count found)) ≡ 0
     kept [] zero known = refl
     kept [] (suc count) known = refl
     kept (slots.Known card ∷ rest) zero known = refl
     kept (slots.Known card ∷ rest) (suc count) known = kept rest count known
     kept (slots.Unknown ∷ rest) count known = absurd known
 
-pub has_places : (covered : List Place) (count : ℕ) → AreKnown (borne covered) → has_no_place covered (known_cards (take count (borne covered))) (blanks_in (take count (borne covered))) ≡ false
+pub has_places : (covered : List Place) (count : ℕ) → AreKnown (borne covered) → has_no_place covered (known_among (take count (borne covered))) (blanks_in (take count (borne covered))) ≡ false
 has_places covered count known =
-    le-ltb (count_by (λ (place : Place). is_unknown place.slot) covered) (length (unmatched_names covered (known_cards (take count (borne covered)))) + blanks_in (take count (borne covered)))
+    le-ltb (count_by (λ (place : Place). hides_card place.slot) covered) (length (unmatched_names covered (known_among (take count (borne covered)))) + blanks_in (take count (borne covered)))
     (omega (arith, ap (λ (l : List Card). length l) (none_other covered count known), none_blank (borne covered) count known))
 
 taken_few : (count : ℕ) (found : List Slot) → length (take count found) ≤ length found

@@ -3,12 +3,12 @@ use Rattle.std.proofs.Common.{◌+◌, ◌≡◌, ℕ, ◌≤◌, true, ◌&&◌
 use Rattle.std.proofs.lemmas.Bool.{and_parts, le-ltb}
 use Rattle.std.proofs.lemmas.List.{length-map, reverse-reverse}
 use Rattle.canon_laws.proofs.MoveCounts.{move_count}
-use Rattle.play_event.specs.PlayedScript.{is_move}
+use Rattle.play_event.specs.PlayedScript.{is_move_event}
 use Rattle.play_event.specs.TraceCore.{core_of}
 use Rattle.card_set.specs.declared.card.Card.{Card}
 use Rattle.card_set.specs.declared.card.Slot.{Slot}
 use Rattle.card_set.specs.declared.card.Slot.TheVariants as slots
-use Rattle.card_set.specs.Known.{is_unknown}
+use Rattle.card_set.specs.Known.{hides_card}
 use Rattle.chip_ledger.specs.Pots.{PlainPot}
 use Rattle.chip_ledger.specs.RakeRow.{rake_of}
 use Rattle.chip_ledger.specs.Rakes.{chips_in, first_rake_above}
@@ -69,7 +69,7 @@ few_cards games.FB = omega arith
 
 -- how many events there are
 record AreFew (events : List Said) : Type 0 where
-  moves : count_by is_move events ≤ 2025
+  moves : count_by is_move_event events ≤ 2025
   others : count_by is_other events ≤ 72
 
 few_events : (setup : Setup) (events : List Said) (deck : List Card) → IsSmall setup → IsGoing setup events deck → AreFew events
@@ -113,8 +113,8 @@ module _ (setup : Setup) (small : IsSmall setup) (start : HandSource) (whole_dec
   shows seat several live =
       all_four (nat_le 2 (live_count setup (moves_of now))) (is_live (moves_of now) seat) (not (has_mucked now seat)) (not (has_unknown_card setup now seat)) several live
       (ap not (going.state.unmucked seat))
-      (ap not (none_stronger (λ (place : Place). is_held_by seat place && is_unknown place.slot) (λ (place : Place). is_unknown place.slot)
-      (λ place is. (and_parts (is_held_by seat place) (is_unknown place.slot) is).1) (places_of setup.code now)
+      (ap not (none_stronger (λ (place : Place). is_held_by seat place && hides_card place.slot) (λ (place : Place). hides_card place.slot)
+      (λ place is. (and_parts (is_held_by seat place) (hides_card place.slot) is).1) (places_of setup.code now)
       (none_unknown (places_of setup.code now) (all_known setup small.few_seats (reverse script) stock going))))
 
   whole_hand : next_event setup history_rules start (reverse script) ≡ None → IsLegalHand setup history_rules script
@@ -137,12 +137,12 @@ module _ (setup : Setup) (small : IsSmall setup) (start : HandSource) (whole_dec
   pub progress : MakesProgress setup start script
   progress =
       let few = few_events setup (reverse script) stock.deck small going in
-      let moves = count_reversed is_move script in
+      let moves = count_reversed is_move_event script in
       let others = count_reversed is_other script in
       record {
         legal = going.legal;
         within = record { moves = omega (arith, few.moves, moves); others = omega (arith, few.others, others) };
-        few = omega (arith, few.moves, few.others, moves, others, count_both is_move script);
+        few = omega (arith, few.moves, few.others, moves, others, count_both is_move_event script);
         cards = omega (
           arith,
           length-map (places_of setup.code now) (λ (place : Place). place.slot),
@@ -163,7 +163,7 @@ module _ (setup : Setup) (small : IsSmall setup) (start : HandSource) (whole_dec
   ends_from : (left : ℕ) (events : List Said) → HaveCome setup history_rules start events → 4352 ≤ left + length events → HasEnd setup start
   ends_from zero events come far =
       let few = few_events setup events (source_behind setup history_rules start events).deck small (made_going setup small start whole_deck events come) in
-      absurd (omega (arith, far, few.moves, few.others, count_both is_move events))
+      absurd (omega (arith, far, few.moves, few.others, count_both is_move_event events))
   ends_from (suc left) events come far = by_next (next_event setup history_rules start events) refl (λ event is. ends_from left (event ∷ events) (is, come) (omega (arith, far)))
     where
       by_next : (next : Option Said) → next_event setup history_rules start events ≡ next → ((event : Said) → next_event setup history_rules start events ≡ Some event → HasEnd setup start) → HasEnd setup start

@@ -24,7 +24,7 @@ use Rattle.play_event.specs.Said.{Said}
 use Rattle.play_event.specs.Scripts.{past_of}
 use Rattle.play_event.specs.Streets.{chips_of_size, limit_of, unit}
 use Rattle.play_event.specs.Targets.{floor, full_targets, is_legal_target, is_target_in, pot_ceiling}
-use Rattle.play_event.specs.ValidSetup.{IsSizeWhere, IsValid, is_fixed}
+use Rattle.play_event.specs.ValidSetup.{IsSizeWhere, IsValid, is_fixed_limit}
 use Rattle.play_event.proofs.FloorLaws.{above_current_bet}
 use Rattle.chip_ledger.specs.Greatest.{greatest}
 
@@ -34,7 +34,7 @@ is_bet sizes.Small = true
 is_bet sizes.Big = true
 is_bet sizes.Least = false
 
-all_bets : (code : Code) → is_fixed (limit_of code) ≡ true → list_all (λ (s : Street). is_bet s.size) (game_of code).streets ≡ true
+all_bets : (code : Code) → is_fixed_limit (limit_of code) ≡ true → list_all (λ (s : Street). is_bet s.size) (game_of code).streets ≡ true
 unfolding is_bet
 all_bets games.FT is = refl
 all_bets games.NT is = false_true is
@@ -63,12 +63,12 @@ some_bet setup sizes.Small is small big = small
 some_bet setup sizes.Big is small big = big
 some_bet setup sizes.Least is small big = false_true is
 
-some_unit : (setup : Setup) (street : ℕ) → IsValid setup → is_fixed (limit_of setup.code) ≡ true → 1 ≤ street → street ≤ street_count setup.code → 1 ≤ unit setup street
+some_unit : (setup : Setup) (street : ℕ) → IsValid setup → is_fixed_limit (limit_of setup.code) ≡ true → 1 ≤ street → street ≤ street_count setup.code → 1 ≤ unit setup street
 some_unit setup street valid fixed first last =
     some_bet setup (option_map_or (λ s. s.size) (slice_get (game_of setup.code).streets (street - 1)) sizes.Least)
     (bet_at (game_of setup.code).streets (street - 1) (all_bets setup.code fixed) (omega (arith, first, last)))
-    (some_size (is_fixed (limit_of setup.code)) setup.small_bet fixed valid.small_bet)
-    (some_size (is_fixed (limit_of setup.code)) setup.big_bet fixed valid.big_bet)
+    (some_size (is_fixed_limit (limit_of setup.code)) setup.small_bet fixed valid.small_bet)
+    (some_size (is_fixed_limit (limit_of setup.code)) setup.big_bet fixed valid.big_bet)
 
 -- the full targets of fixed limit are above the current bet
 module _ (the_current_bet the_unit last target : ℕ) (some : 1 ≤ the_unit) where
@@ -93,9 +93,9 @@ module _ (the_current_bet the_unit last target : ℕ) (some : 1 ≤ the_unit) wh
   ]
 
 goes_above : (limit : Limit) (reopen : Reopen) (setup : Setup) (moves : List Move) (street seat target : ℕ)
-    → (is_fixed limit ≡ false → current_bet setup moves street < floor reopen setup moves street)
-    → (is_fixed limit ≡ false → 1 ≤ full_raise setup moves street)
-    → (is_fixed limit ≡ true → 1 ≤ unit setup street)
+    → (is_fixed_limit limit ≡ false → current_bet setup moves street < floor reopen setup moves street)
+    → (is_fixed_limit limit ≡ false → 1 ≤ full_raise setup moves street)
+    → (is_fixed_limit limit ≡ true → 1 ≤ unit setup street)
     → current_bet setup moves street < all_in setup moves street seat → is_target_in limit reopen setup moves street seat target ≡ true
     → current_bet setup moves street < target
 goes_above limits.No reopen setup moves street seat target above full some chips is = elim (or_cases (nat_le (floor reopen setup moves street) target && nat_le target (all_in setup moves street seat)) (target == all_in setup moves street seat) is) [

@@ -7,8 +7,8 @@ use Rattle.play_event.specs.declared.code.Code.{Code}
 use Rattle.play_event.specs.declared.code.Code.TheVariants as games
 use Rattle.play_event.specs.declared.setup.Setup.{Setup}
 use Rattle.play_event.specs.Games.{game_of}
-use Rattle.play_event.specs.Streets.{is_stud, limit_of}
-use Rattle.play_event.specs.ValidSetup.{IsSizeWhere, IsValid, is_fixed}
+use Rattle.play_event.specs.Streets.{is_stud_game, limit_of}
+use Rattle.play_event.specs.ValidSetup.{IsSizeWhere, IsValid, is_fixed_limit}
 use Rattle.hand_gen.specs.Draws.{number_after}
 use Rattle.hand_gen.specs.Progress.{IsSmall}
 use Rattle.hand_gen.specs.Setups.{IsMadeSetup, blind_in, blind_of, seats_drawn, stack_drawn}
@@ -92,10 +92,10 @@ made_valid place number setup made =
       );
       antes = λ seat. each_ante seat;
       blinds = λ seat. omega (arith, each_blind seat);
-      bring_in = subst (IsSizeWhere (is_stud code)) (sym made.bring_in) (size_where (is_stud code) 1 (omega arith) (omega arith));
-      small_bet = subst (IsSizeWhere (is_fixed (limit_of code))) (sym made.small_bet) (size_where (is_fixed (limit_of code)) 2 (omega arith) (omega arith));
-      big_bet = subst (IsSizeWhere (is_fixed (limit_of code))) (sym made.big_bet) (size_where (is_fixed (limit_of code)) 4 (omega arith) (omega arith));
-      least_bet = subst (IsSizeWhere (not (is_fixed (limit_of code)))) (sym made.least_bet) (size_else (is_fixed (limit_of code)) 2 (omega arith) (omega arith));
+      bring_in = subst (IsSizeWhere (is_stud_game code)) (sym made.bring_in) (size_where (is_stud_game code) 1 (omega arith) (omega arith));
+      small_bet = subst (IsSizeWhere (is_fixed_limit (limit_of code))) (sym made.small_bet) (size_where (is_fixed_limit (limit_of code)) 2 (omega arith) (omega arith));
+      big_bet = subst (IsSizeWhere (is_fixed_limit (limit_of code))) (sym made.big_bet) (size_where (is_fixed_limit (limit_of code)) 4 (omega arith) (omega arith));
+      least_bet = subst (IsSizeWhere (not (is_fixed_limit (limit_of code)))) (sym made.least_bet) (size_else (is_fixed_limit (limit_of code)) 2 (omega arith) (omega arith));
       dead_antes = λ dead. absurd (cc (dead, made.dead_antes));
       heads_up = λ two. omega (
         arith,
@@ -103,7 +103,7 @@ made_valid place number setup made =
         made.blinds 1 (omega arith) (omega (arith, two)),
         ap (λ n. blind_in code n 2) two,
         ap (λ n. blind_in code n 1) two,
-        two_blinds (is_stud code),
+        two_blinds (is_stud_game code),
       );
       stud = λ stud seat. none_at stud seat;
       rakes = λ pot. omega (arith, made.rakes pot);
@@ -113,22 +113,22 @@ made_valid place number setup made =
     each_ante zero = each_ante_at 1 (omega arith) (omega (arith, setup.stacks.least))
       where
         each_ante_at : (seat : ℕ) → 1 ≤ seat → seat ≤ setup.stacks.seats → amount_of setup.antes seat ≤ amount_of setup.stacks seat
-        each_ante_at seat first last = omega (arith, made.antes seat first last, if_most (is_stud setup.code) 1, made.stacks seat first last, some_stack number seat)
+        each_ante_at seat first last = omega (arith, made.antes seat first last, if_most (is_stud_game setup.code) 1, made.stacks seat first last, some_stack number seat)
     each_ante (suc n) =
         elim (cases_lt n setup.stacks.seats) [
           | inl inside ↦
               let first : 1 ≤ suc n = omega arith in
               let last : suc n ≤ setup.stacks.seats = omega (arith, inside) in
-              omega (arith, made.antes (suc n) first last, if_most (is_stud setup.code) 1, made.stacks (suc n) first last, some_stack number (suc n))
+              omega (arith, made.antes (suc n) first last, if_most (is_stud_game setup.code) 1, made.stacks (suc n) first last, some_stack number (suc n))
           | inr past ↦ let none = setup.antes.filler n (omega (arith, past, made.same_antes)) in omega (arith, none)
         ]
 
     each_blind : (seat : ℕ) → amount_of setup.blinds seat ≤ 2
-    each_blind seat = any_seat setup.blinds 2 (λ seat first last. omega (arith, made.blinds seat first (omega (arith, last, made.same_blinds)), blind_few (is_stud setup.code) setup.stacks.seats seat)) seat
+    each_blind seat = any_seat setup.blinds 2 (λ seat first last. omega (arith, made.blinds seat first (omega (arith, last, made.same_blinds)), blind_few (is_stud_game setup.code) setup.stacks.seats seat)) seat
 
-    none_at : is_stud setup.code ≡ true → (seat : ℕ) → amount_of setup.blinds seat ≡ 0
+    none_at : is_stud_game setup.code ≡ true → (seat : ℕ) → amount_of setup.blinds seat ≡ 0
     none_at stud seat =
-        let few : amount_of setup.blinds seat ≤ 0 = any_seat setup.blinds 0 (λ seat first last. omega (arith, made.blinds seat first (omega (arith, last, made.same_blinds)), no_blind (is_stud setup.code) setup.stacks.seats seat stud)) seat in
+        let few : amount_of setup.blinds seat ≤ 0 = any_seat setup.blinds 0 (λ seat first last. omega (arith, made.blinds seat first (omega (arith, last, made.same_blinds)), no_blind (is_stud_game setup.code) setup.stacks.seats seat stud)) seat in
         omega (arith, few)
 
 -- and has few seats and chips

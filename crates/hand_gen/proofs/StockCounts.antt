@@ -13,7 +13,7 @@ use Rattle.play_event.specs.declared.code.Code.{Code}
 use Rattle.play_event.specs.declared.code.Code.TheVariants as games
 use Rattle.play_event.specs.Streets.{deck_of}
 use Rattle.play_event.specs.Taken.{is_in_deck}
-use Rattle.hand_gen.specs.Draws.{drawn, next_number}
+use Rattle.hand_gen.specs.Draws.{choice_among, next_number}
 use Rattle.hand_gen.specs.HandSource.{HandSource, after_card, after_cards, full_deck, next_card, next_cards, next_place}
 
 -- a card that is taken out at a place is no longer counted among the others
@@ -23,7 +23,7 @@ taken_out p (card ∷ rest) zero other within = sym (count_by-cons p card rest)
 taken_out p (card ∷ rest) (suc place) other within =
     omega (arith, taken_out p rest place other (omega (arith, within)), count_by-cons p card rest, count_by-cons p card (remove rest place))
 
-drawn_within : (count number : ℕ) → 0 < count → drawn count number < count
+drawn_within : (count number : ℕ) → 0 < count → choice_among count number < count
 drawn_within count number some = mod_below (number / 2 ^ 33) count some
 
 -- what is taken and what is left

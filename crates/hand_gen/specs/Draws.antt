@@ -11,5 +11,5 @@ number_after zero number = number
 number_after (suc count) number = number_after count (next_number number)
 
 -- the choice that a number makes among a count, from 0 upward: its upper 31 bits, modulo the count
-abbrev pub drawn : ℕ → ℕ → ℕ
-drawn count number = (number / 2 ^ 33) % count
+abbrev pub choice_among : ℕ → ℕ → ℕ
+choice_among count number = (number / 2 ^ 33) % count

@@ -5,7 +5,7 @@ use Rattle.card_set.specs.declared.card.Card.{Card}
 use Rattle.card_set.specs.Deck.{card_with_index}
 use Rattle.play_event.specs.declared.code.Code.{Code}
 use Rattle.play_event.specs.Taken.{is_in_deck}
-use Rattle.hand_gen.specs.Draws.{drawn, next_number}
+use Rattle.hand_gen.specs.Draws.{choice_among, next_number}
 
 -- the cards that are left, in the order of the deck
 pub record HandSource : Type 0 where
@@ -18,7 +18,7 @@ full_deck code = filter (is_in_deck code) (map card_with_index (range_with_len 0
 
 -- what is drawn next, among this number of choices
 abbrev pub draw_of : ℕ → HandSource → ℕ
-draw_of count stock = drawn count (next_number stock.number)
+draw_of count stock = choice_among count (next_number stock.number)
 
 -- the stock after one number is drawn
 abbrev pub after_draw : HandSource → HandSource

@@ -5,7 +5,7 @@ use Rattle.std.specs.Fmt.{decimal}
 use Rattle.std.specs.List.{AllZip}
 use Rattle.acpc_game.specs.declared.game.Game.{Game}
 use Rattle.acpc_game.specs.GameView.{game_in}
-use Rattle.acpc_format.specs.GameOf.{game_of}
+use Rattle.acpc_format.specs.GameOf.{game_for}
 use Rattle.acpc_format.specs.Line.{log_text}
 use Rattle.acpc_format.specs.Spelled as logs
 use Rattle.hand_canon.specs.Agreement.{pot_total_of}
@@ -46,10 +46,10 @@ IsInHistories play spelled =
 
 -- the size of a play in the logs of the game that it fits; a play that fits no game is in none
 pub data IsInLogs (play : Play) (spelled : SpelledSize) : Type 0 where
-  fits_none : (fact : Unspelled) → game_of play.trace.setup ≡ Err fact → spelled.hands ≡ 0
+  fits_none : (fact : Unspelled) → game_for play.trace.setup ≡ Err fact → spelled.hands ≡ 0
       → spelled.bytes ≡ 0
       → IsInLogs play spelled
-  fits : (game : Game) → game_of play.trace.setup ≡ Ok (game_in game)
+  fits : (game : Game) → game_for play.trace.setup ≡ Ok (game_in game)
       → IsSpelled (logs.unspelled game keeps.All play) (length (log_text game.no_limit (play ∷ [])))
       spelled
       → IsInLogs play spelled

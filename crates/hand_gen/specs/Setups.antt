@@ -5,9 +5,9 @@ use Rattle.chip_ledger.specs.SeatRow.{amount_of}
 use Rattle.play_event.specs.declared.code.Code.{Code}
 use Rattle.play_event.specs.declared.code.Code.TheVariants as games
 use Rattle.play_event.specs.declared.setup.Setup.{Setup}
-use Rattle.play_event.specs.Streets.{is_stud, limit_of}
-use Rattle.play_event.specs.ValidSetup.{is_fixed}
-use Rattle.hand_gen.specs.Draws.{drawn, number_after}
+use Rattle.play_event.specs.Streets.{is_stud_game, limit_of}
+use Rattle.play_event.specs.ValidSetup.{is_fixed_limit}
+use Rattle.hand_gen.specs.Draws.{choice_among, number_after}
 use Rattle.play_event.specs.Games.{all_games}
 
 -- the game of a hand, by its place among the hands, from 0
@@ -16,23 +16,23 @@ game_at place = slice_index_or all_games (place % length all_games) games.FT
 
 -- the number of seats that is drawn after a number
 abbrev pub seats_drawn : ℕ → ℕ
-seats_drawn number = 2 + drawn 3 (number_after 1 number)
+seats_drawn number = 2 + choice_among 3 (number_after 1 number)
 
 -- the stack of a seat is drawn after the number of seats and the stacks before it
 abbrev pub stack_drawn : ℕ → ℕ → ℕ
-stack_drawn number seat = 100 + drawn 401 (number_after (1 + seat) number)
+stack_drawn number seat = 100 + choice_among 401 (number_after (1 + seat) number)
 
 -- chips that a stud game has, and no other game
 abbrev pub in_stud : Code → ℕ → ℕ
-in_stud code chips = if is_stud code then chips else 0
+in_stud code chips = if is_stud_game code then chips else 0
 
 -- chips that are used in fixed limit only
 abbrev pub in_fixed : Code → ℕ → ℕ
-in_fixed code chips = if is_fixed (limit_of code) then chips else 0
+in_fixed code chips = if is_fixed_limit (limit_of code) then chips else 0
 
 -- chips that are used in no limit and pot limit only
 abbrev pub in_other : Code → ℕ → ℕ
-in_other code chips = if is_fixed (limit_of code) then 0 else chips
+in_other code chips = if is_fixed_limit (limit_of code) then 0 else chips
 
 -- the blinds are 1 for p1 and 2 for p2; heads-up it is the other way round
 abbrev pub blind_of : ℕ → ℕ → ℕ
@@ -43,7 +43,7 @@ blind_of seats seat =
 
 -- the blind of a seat in a game
 abbrev pub blind_in : Code → ℕ → ℕ → ℕ
-blind_in code seats seat = if is_stud code then 0 else blind_of seats seat
+blind_in code seats seat = if is_stud_game code then 0 else blind_of seats seat
 
 -- The setup of the hand at a place, where the generator has come to a number. Stud has antes of 1
 -- and a bring-in of 1; the small bet is 2, the big bet 4, and the minimum bet 2. Antes are not

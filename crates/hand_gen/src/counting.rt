@@ -60,7 +60,7 @@ fn in_logs(
 // The size of a play in the logs of a game, as a file of its own.
 fn in_logs_of(alloc: Global, game: &Game, file: &SoundPlays<'_>) -> Result<SpelledSize, Memory>
     ensures { (play : PlayNow) → file.now ≡ play ∷ []
-        → games.game_of play.trace.setup ≡ Ok (game_in game.now) → IfOk result (IsInLogs play) }
+        → games.game_for play.trace.setup ≡ Ok (game_in game.now) → IfOk result (IsInLogs play) }
 {
     match acpc_format::write(alloc, game, file.as_slice(), Keep::All) {
         Ok(bytes) => Ok(spelled_in(bytes.len())),

@@ -9,7 +9,7 @@ const STEP: u128 = 1_442_695_040_888_963_407;
 
 /// The number after this one.
 #[tactic(auto, unfolding(crate::specs::Draws::next_number))]
-pub fn next_number(number: u64) -> u64
+pub fn advance_number(number: u64) -> u64
     ensures { result ≡ draws.next_number number }
 {
     ((u128::from(number) * FACTOR + STEP) % (1 << 64)) as u64
@@ -18,7 +18,7 @@ pub fn next_number(number: u64) -> u64
 /// The choice that a number makes among `count`, from 0 upward.
 pub fn drawn(count: u64, number: u64) -> u64
     requires { 0 < count }
-    ensures value { result ≡ draws.drawn count number }
+    ensures value { result ≡ draws.choice_among count number }
     ensures within { result < count }
 {
     (number >> 33) % count

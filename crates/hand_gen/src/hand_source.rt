@@ -3,9 +3,9 @@ ghost use Rattle.std.specs.Prelude.{◌≡◌, ◌<◌, ◌≤◌, ◌++◌, ◌
 ghost use Rattle.card_set.specs.Row.{cards_of};
 ghost use Rattle.hand_gen.specs.HandSource as stocks;
 
-use crate::draws::{drawn, next_number};
+use crate::draws::{advance_number, drawn};
 use card_places::DealTable;
-use card_set::{Card, CardRow, Memory, TryPush, card_with_index};
+use card_set::{Card, CardRow, Memory, TryPush, card_from_index};
 use play_event::Code;
 use std::alloc::Global;
 use std::marker::Model;
@@ -31,7 +31,7 @@ impl HandSource {
         ensures number { IfOk result (λ stock. stock.number ≡ number) }
         ensures deck { IfOk result (λ stock. stock.deck ≡ stocks.full_deck code) }
     {
-        let deck = full_deck(alloc, code)?;
+        let deck = new_deck(alloc, code)?;
         Ok(HandSource { number, deck })
     }
 
@@ -49,7 +49,7 @@ impl HandSource {
         ensures within { result < count }
         ensures stock { self.new ≡ stocks.after_draw self.old }
     {
-        self.number = next_number(self.number);
+        self.number = advance_number(self.number);
         drawn(count, self.number)
     }
 
@@ -71,9 +71,9 @@ impl HandSource {
         ensures card { result ≡ stocks.next_card self.old }
         ensures stock { self.new ≡ stocks.after_card self.old }
     {
-        self.number = next_number(self.number);
+        self.number = advance_number(self.number);
         if self.deck.is_empty() {
-            return card_with_index(0);
+            return card_from_index(0);
         }
         let place = drawn(self.deck.len() as u64, self.number) as usize;
         self.deck.remove(place)
@@ -81,13 +81,13 @@ impl HandSource {
 }
 
 // The whole deck of a game.
-fn full_deck(alloc: Global, code: Code) -> Result<Vec<Card>, Memory>
+fn new_deck(alloc: Global, code: Code) -> Result<Vec<Card>, Memory>
     ensures { IfOk result (λ deck. deck.items ≡ stocks.full_deck code) }
 {
     let table = DealTable::of(code);
     let mut deck = Vec::new(alloc);
     for place in 0..52 {
-        let card = card_with_index(place);
+        let card = card_from_index(place);
         push_if(&mut deck, table.in_deck(card), card)?;
     }
     Ok(deck)

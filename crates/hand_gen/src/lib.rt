@@ -15,6 +15,6 @@ mod setups;
 mod summary;
 
 pub use laws::law_of_progress;
-pub use loading::{load, summary_text};
+pub use loading::{load, write_summary};
 pub use making::{GeneratedHand, make, make_play};
 pub use summary::Summary;

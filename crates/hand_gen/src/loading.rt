@@ -76,7 +76,7 @@ fn with_counts(summary: Summary, counts: PlayCounts, before: u32) -> Summary
 /// # Errors
 ///
 /// Out of memory.
-pub fn summary_text(alloc: Global, summary: &Summary) -> Result<String, Memory>
+pub fn write_summary(alloc: Global, summary: &Summary) -> Result<String, Memory>
     ensures { IfOk result (λ text. string_bytes text ≡ loads.summary_text summary.now) }
 {
     let mut text = String::new(alloc);

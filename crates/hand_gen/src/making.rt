@@ -14,7 +14,7 @@ ghost use Rattle.hand_gen.specs.Sound.{IsSoundHand};
 
 use crate::hand::{history_rules, script_of};
 use crate::hand_source::HandSource;
-use crate::setups::{number_behind_setup, setup_at};
+use crate::setups::{advance_past_setup, setup_at};
 use card_set::Memory;
 use hand_canon::{Notes, Play, Record, Records, Stated};
 use play_event::{Script, Setup};
@@ -42,16 +42,10 @@ pub fn make(alloc: Global, seed: u64, count: u32) -> Result<Records, Memory>
     let mut number = seed;
     let mut hands = Records::new(alloc);
     for place in 0..count {
-        let made = match make_play(alloc, place, number) {
-            Ok(made) => made,
-            Err(memory) => return Err(memory),
-        };
+        let made = make_play(alloc, place, number)?;
         number = made.number;
         let play = made.play;
-        match hands.push(play.hand) {
-            Ok(()) => {}
-            Err(memory) => return Err(memory),
-        }
+        hands.push(play.hand)?;
     }
     Ok(hands)
 }
@@ -68,15 +62,9 @@ pub fn make_play(alloc: Global, place: u32, number: u64) -> Result<GeneratedHand
     ensures sound { IfOk result (λ made. IsSound made.play) }
 {
     let setup = setup_at(place, number);
-    let start = number_behind_setup(number, &setup);
-    let mut stock = match HandSource::full(alloc, start, setup.code) {
-        Ok(stock) => stock,
-        Err(memory) => return Err(memory),
-    };
-    let script = match script_by_code(alloc, &setup, &mut stock) {
-        Ok(script) => script,
-        Err(memory) => return Err(memory),
-    };
+    let start = advance_past_setup(number, &setup);
+    let mut stock = HandSource::full(alloc, start, setup.code)?;
+    let script = script_by_code(alloc, &setup, &mut stock)?;
     let rules = history_rules();
     let trace = match replay(alloc, &setup, &rules, &script) {
         Ok(trace) => trace,

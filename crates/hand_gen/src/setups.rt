@@ -1,9 +1,9 @@
 //! The setup of a made hand.
 ghost use Rattle.std.specs.Prelude.{◌≡◌, ◌≤◌, ◌+◌, ℕ, if◌then◌else◌};
 ghost use Rattle.chip_ledger.specs.SeatRow.{amount_of};
-ghost use Rattle.hand_gen.specs.Draws.{drawn, number_after};
+ghost use Rattle.hand_gen.specs.Draws.{choice_among, number_after};
 ghost use Rattle.hand_gen.specs.Setups as setups;
-ghost use Rattle.hand_gen.specs.Setups.{IsMadeSetup, number_behind_setup};
+ghost use Rattle.hand_gen.specs.Setups.{IsMadeSetup};
 
 use crate::draws;
 use chip_ledger::{PlayerCount, RakeRow, Seat, SeatRow};
@@ -28,10 +28,10 @@ const GAMES: [Code; 11] = [
 pub fn setup_at(place: u32, number: u64) -> Setup
     ensures { IsMadeSetup place number result }
 {
-    let code = game_at(place);
+    let code = find_game(place);
     let stud = code.is_stud();
     let fixed = code.is_fixed();
-    let first = draws::next_number(number);
+    let first = draws::advance_number(number);
     let players = PlayerCount {
         number: 2 + draws::drawn(3, first) as u8,
     };
@@ -50,7 +50,7 @@ pub fn setup_at(place: u32, number: u64) -> Setup
 }
 
 // The game of a hand, by its place.
-fn game_at(place: u32) -> Code
+fn find_game(place: u32) -> Code
     ensures { result ≡ setups.game_at place }
 {
     GAMES[place as usize % GAMES.len()]
@@ -61,12 +61,12 @@ fn game_at(place: u32) -> Code
 fn stacks(number: u64, players: PlayerCount) -> SeatRow
     ensures seats { result.seats ≡ players.number }
     ensures stacks { (seat : ℕ) → 1 ≤ seat → seat ≤ players.number
-        → amount_of result seat ≡ 100 + drawn 401 (number_after seat number) }
+        → amount_of result seat ≡ 100 + choice_among 401 (number_after seat number) }
 {
     let mut row = SeatRow::new(players.number);
     let mut number = number;
     for index in 0..players.number {
-        number = draws::next_number(number);
+        number = draws::advance_number(number);
         row.set(Seat { number: index + 1 }, 100 + draws::drawn(401, number));
     }
     row
@@ -122,20 +122,20 @@ fn blind(stud: bool, players: PlayerCount, seat: u8) -> u64
 }
 
 /// The generator's number after the setup was drawn.
-pub fn number_behind_setup(number: u64, setup: &Setup) -> u64
+pub fn advance_past_setup(number: u64, setup: &Setup) -> u64
     ensures { result ≡ setups.number_behind_setup number setup.now }
 {
-    number_behind(number, 1 + setup.stacks.seats)
+    advance_by(number, 1 + setup.stacks.seats)
 }
 
 // The number after `count` draws.
 #[tactic(auto, using(crate::proofs::DrawLaws::one_draw_more))]
-fn number_behind(number: u64, count: u8) -> u64
+fn advance_by(number: u64, count: u8) -> u64
     ensures { result ≡ number_after count number }
 {
     let mut number = number;
     for _ in 0..count {
-        number = draws::next_number(number);
+        number = draws::advance_number(number);
     }
     number
 }

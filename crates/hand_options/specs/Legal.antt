@@ -17,7 +17,7 @@ use Rattle.play_event.specs.Reasons.{why}
 use Rattle.play_event.specs.Said.{Said, BringIn, Call, Fold, Raise}
 use Rattle.play_event.specs.Streets.{limit_of}
 use Rattle.play_event.specs.TurnTargets.{is_bet_due}
-use Rattle.play_event.specs.ValidSetup.{is_fixed}
+use Rattle.play_event.specs.ValidSetup.{is_fixed_limit}
 use Rattle.betting_numbers.specs.TurnSaid.{in_turn_on}
 use Rattle.hand_options.specs.declared.choices.Options.{Options}
 use Rattle.hand_options.specs.declared.choices.RaiseSet.{RaiseSet}
@@ -87,8 +87,8 @@ pub record AreListed (count : ℕ) (to : List ℕ) : Type 0 where
 -- names the lowest and the highest
 abbrev pub IsSetOf : Limit → RaiseSet → Type 0
 IsSetOf limit sets.None = Unit {0}
-IsSetOf limit (sets.Range least greatest) = (is_fixed limit ≡ false) × (least ≤ greatest)
-IsSetOf limit (sets.List count to) = (is_fixed limit ≡ true) × AreListed count to
+IsSetOf limit (sets.Range least greatest) = (is_fixed_limit limit ≡ false) × (least ≤ greatest)
+IsSetOf limit (sets.List count to) = (is_fixed_limit limit ≡ true) × AreListed count to
 
 -- What is due after a past, and which moves of the player to act are legal. If no player is to act,
 -- there are no moves.

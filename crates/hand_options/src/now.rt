@@ -5,7 +5,7 @@ ghost use Rattle.play_event.specs.TurnTargets.{is_bet_due};
 ghost use Rattle.replay_core.specs.AddedMoves.{WhereTogether};
 
 use crate::choices::Options;
-use crate::seat_choices::{no_options, options_of};
+use crate::seat_choices::{empty_options, options_of};
 use replay_core::HandInPlay;
 use variant_table::Variant;
 
@@ -20,11 +20,11 @@ pub fn options_now<V: Variant>(hand: &HandInPlay<V>) -> Options
 {
     let due = hand.betting.due();
     if !due.is_bet() {
-        return no_options(due);
+        return empty_options(due);
     }
     let up = hand.opening_up_cards();
     match hand.betting.to_act(&up) {
         Some(seat) => options_of(&hand.betting, &up, seat),
-        None => no_options(due),
+        None => empty_options(due),
     }
 }

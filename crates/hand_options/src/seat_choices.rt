@@ -48,7 +48,7 @@ pub fn options_of<V: Variant>(betting: &Betting<V>, up: &UpRow, seat: Seat) -> O
 }
 
 /// The options when no player is to act: there are none.
-pub fn no_options(due: Due) -> Options
+pub fn empty_options(due: Due) -> Options
     ensures { result ≡ sets.no_options due }
 {
     Options {

@@ -14,12 +14,12 @@ pub fn raise_set(limit: Limit, ends: Option<Targets>) -> RaiseSet
 {
     match ends {
         None => RaiseSet::None,
-        Some(ends) => set_between(limit, ends.least, ends.greatest),
+        Some(ends) => targets_between(limit, ends.least, ends.greatest),
     }
 }
 
 // The set of legal targets from `least` to `greatest`. In fixed limit there are no others.
-fn set_between(limit: Limit, least: u64, greatest: u64) -> RaiseSet
+fn targets_between(limit: Limit, least: u64, greatest: u64) -> RaiseSet
     ensures { result ≡ sets.set_between limit least greatest }
 {
     match limit {

@@ -11,7 +11,7 @@ use Rattle.card_set.proofs.KnownCards.{all_known, all_known_length}
 use Rattle.card_set.specs.declared.card.Card.{Card}
 use Rattle.card_set.specs.declared.card.Slot.TheVariants as slots
 use Rattle.card_set.specs.Different.{AllDifferent}
-use Rattle.card_set.specs.Known.{known_cards}
+use Rattle.card_set.specs.Known.{known_among}
 use Rattle.deal_core.proofs.Boards.{board_held}
 use Rattle.deal_core.specs.Board.{board_cards}
 use Rattle.hand_canon.specs.LegalHand.{showdown_in}
@@ -47,9 +47,9 @@ pub record IsWhole (code : Code) (showdown : Showdown) (seat : ℕ) : Type 0 whe
   pub different : AllDifferent (showdown.holding seat ++ showdown.board)
 
 -- the cards of the board are known
-board_length : (code : Code) (past : Past) → length (known_cards (held_slots None (places_of code past))) ≡ length (held_slots None (places_of code past))
+board_length : (code : Code) (past : Past) → length (known_among (held_slots None (places_of code past))) ≡ length (held_slots None (places_of code past))
 board_length code past =
-    ap (λ l. length (known_cards l)) (board_held code past)
+    ap (λ l. length (known_among l)) (board_held code past)
     ∙ ap length (all_known (board_cards past))
     ∙ sym (length-map (board_cards past) (λ (card : Card). slots.Known card))
     ∙ ap length (sym (board_held code past))
@@ -67,10 +67,10 @@ shown_whole setup rules events seat legal finished shown =
     let most : seat ≤ setup.stacks.seats = omega (arith, range.1) in
     let it = shown_seat setup past seat (any_found (is_shown setup past) seat (all_seats setup) among) in
     let ends : EndContested setup rules events = record { legal = legal; several = it.several; finished = finished } in
-    let holding : known_cards (canon.held_slots (traced_places setup past) seat) ≡ known_cards (held_slots (Some seat) placed) =
-    ap known_cards (discarded_same (finals_of setup placed (street_count setup.code)) seat 0 ∙ held_script setup rules events seat legal range.0 most it.live) in
-    let board : known_cards (flat_map (canon.dealt_slots (traced_places setup past) None) (streets_of setup)) ≡ known_cards (held_slots None placed) =
-    ap known_cards (traced_board setup rules events legal) in
+    let holding : known_among (canon.held_slots (traced_places setup past) seat) ≡ known_among (held_slots (Some seat) placed) =
+    ap known_among (discarded_same (finals_of setup placed (street_count setup.code)) seat 0 ∙ held_script setup rules events seat legal range.0 most it.live) in
+    let board : known_among (flat_map (canon.dealt_slots (traced_places setup past) None) (streets_of setup)) ≡ known_among (held_slots None placed) =
+    ap known_among (traced_board setup rules events legal) in
     record {
       least = range.0;
       most = most;
@@ -80,6 +80,6 @@ shown_whole setup rules events seat legal finished shown =
           ∙ whole_hands setup rules events seat ends (record { least = range.0; most = most; live = it.live });
       board = ap length board ∙ board_length setup.code past ∙ whole_boards setup rules events ends;
       different = subst AllDifferent
-          (ap (λ l. l ++ known_cards (held_slots None placed)) (sym holding) ∙ ap (λ l. known_cards (canon.held_slots (traced_places setup past) seat) ++ l) (sym board))
+          (ap (λ l. l ++ known_among (held_slots None placed)) (sym holding) ∙ ap (λ l. known_among (canon.held_slots (traced_places setup past) seat) ++ l) (sym board))
           (cards_differ setup rules events seat legal);
     }

@@ -38,8 +38,8 @@ with_seat visit seat =
     }
 
 -- the row of a name that has not been seen yet
-abbrev pub new_session : List ℕ → PlayerSession
-new_session name =
+abbrev pub empty_session : List ℕ → PlayerSession
+empty_session name =
     record {
       name = name;
       first = 0;
@@ -90,19 +90,19 @@ session_names rows = map (λ row. row.name) rows
 
 -- the row of a name among rows, or a new one
 abbrev pub session_at : List PlayerSession → List ℕ → PlayerSession
-session_at [] name = new_session name
+session_at [] name = empty_session name
 session_at (row ∷ rows) name = if bytes_eq name row.name then row else session_at rows name
 
 -- rows with one more visit of a name
 abbrev pub visit_seat : List PlayerSession → List ℕ → Visit → List PlayerSession
-visit_seat [] name visit = with_visit (new_session name) visit ∷ []
+visit_seat [] name visit = with_visit (empty_session name) visit ∷ []
 visit_seat (row ∷ rows) name visit =
     if bytes_eq name row.name then with_visit row visit ∷ rows else row ∷ visit_seat rows name visit
 
 -- rows with a row for a name, a new one at the end if there is none
 abbrev pub sessions_with : List PlayerSession → List ℕ → List PlayerSession
 sessions_with rows name =
-    if list_any (bytes_eq name) (session_names rows) then rows else rows ++ new_session name ∷ []
+    if list_any (bytes_eq name) (session_names rows) then rows else rows ++ empty_session name ∷ []
 
 -- rows with the visit of a name in a hand, unless one of these earlier seats has the name
 abbrev pub after_seat : Hand → List Seated → List PlayerSession → List ℕ → List PlayerSession

@@ -1,7 +1,7 @@
 -- The past after each event of a script, and what the next event adds to it.
 use Rattle.std.proofs.Common.{◌≡◌, ℕ, zero, suc, ◌≤◌, Bool, true, false, List, [], ◌∷◌, ◌++◌, length, take, drop, reverse, map, refl, sym, ap, ◌∙◌, append_assoc, arith}
 use Rattle.std.proofs.lemmas.List.{reverse-append}
-use Rattle.play_event.specs.PlayedScript.{is_move}
+use Rattle.play_event.specs.PlayedScript.{is_move_event}
 use Rattle.play_event.specs.Laws.{AreLegal}
 use Rattle.play_event.specs.Past as past
 use Rattle.play_event.specs.Past.{Move, Past, Resolved, moves_of}
@@ -79,7 +79,7 @@ pub record OnCards (setup : Setup) (before : Past) (event : Said) : Type 0 where
   pub named : event_named newest ≡ event
   pub moves : moves_of (newest ∷ before) ≡ moves_of before
 
-pub on_cards : (setup : Setup) (before : Past) (event : Said) → is_move event ≡ false → OnCards setup before event
+pub on_cards : (setup : Setup) (before : Past) (event : Said) → is_move_event event ≡ false → OnCards setup before event
 unfolding with_event
 on_cards setup before (said.Hole seat cards) is_not = record { newest = past.Dealt (turn setup before).0 seat cards; is = refl; named = refl; moves = refl }
 on_cards setup before (said.Board cards) is_not = record { newest = past.Boarded (turn setup before).0 cards; is = refl; named = refl; moves = refl }
@@ -109,7 +109,7 @@ the_move (past.Discarded street seat cards) is_so = cc
 the_move (past.Shown street seat cards) is_so = cc
 the_move (past.Mucked street seat) is_so = cc
 
-moved_by : (setup : Setup) (moves : List Move) (street : ℕ) (in_turn : InTurn) (event : Said) → is_move event ≡ true → is_moved (resolved_by setup moves street in_turn event) ≡ true
+moved_by : (setup : Setup) (moves : List Move) (street : ℕ) (in_turn : InTurn) (event : Said) → is_move_event event ≡ true → is_moved (resolved_by setup moves street in_turn event) ≡ true
 unfolding is_moved
 moved_by setup moves street in_turn (said.Fold named) is_so = refl
 moved_by setup moves street in_turn (said.Call named stated) is_so = refl
@@ -125,7 +125,7 @@ pub record ByMove (setup : Setup) (before : Past) (event : Said) : Type 0 where
   pub move : Move
   pub is : with_event setup event before ≡ past.Moved move ∷ before
 
-pub by_move : (setup : Setup) (before : Past) (event : Said) → is_move event ≡ true → ByMove setup before event
+pub by_move : (setup : Setup) (before : Past) (event : Said) → is_move_event event ≡ true → ByMove setup before event
 unfolding with_event
 by_move setup before event is_so =
     let street = (turn setup before).0 in

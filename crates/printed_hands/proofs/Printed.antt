@@ -5,7 +5,7 @@ use Rattle.std.proofs.lemmas.List.{append-nil, length-map, length-reverse, lengt
 use Rattle.std.proofs.lemmas.Option.{slice_get-map}
 use Rattle.chip_ledger.specs.declared.seat_row.SeatRow.{SeatRow}
 use Rattle.play_event.specs.CanonScript.{move_named, plain_move}
-use Rattle.play_event.specs.PlayedScript.{is_move}
+use Rattle.play_event.specs.PlayedScript.{is_move_event}
 use Rattle.hand_canon.specs.LegalPlay.{IsTraceOfLegal}
 use Rattle.hand_canon.specs.SoundRecord.{script_said}
 use Rattle.hand_canon.specs.declared.record.Record.{Record}
@@ -75,7 +75,7 @@ more_lines hand count newest event moves before text within is named moved so_fa
 
 -- one more event of cards
 pub cards_printed : (hand : Record) (count made : ℕ) (put : SeatRow) (left more : List Event) (event : Event) (before text : List ℕ)
-    → ArePrinted hand count made put left before text → event ∷ more ≡ left → is_move (said_of event) ≡ false
+    → ArePrinted hand count made put left before text → event ∷ more ≡ left → is_move_event (said_of event) ≡ false
     → ArePrinted hand (count + 1) made put more before (text ++ line_of hand.setup (count + 1) (said_of event) (moves_of (past_to hand count)))
 cards_printed hand count made put left more event before text printed front is_not =
     let next = is_next hand.script count event more (front ∙ printed.left_is) in
@@ -110,7 +110,7 @@ some_said moved traced found is said = inside (move_said moved) traced (sym (ap 
     inside x y same = cc
 
 pub next_move : (hand : Record) (moves : List rows.Move) (events count made : ℕ) (put : SeatRow) (left more : List Event) (event : Event) (before text : List ℕ)
-    → IsValid hand.setup → AreMovesBefore hand events moves → count < events → ArePrinted hand count made put left before text → event ∷ more ≡ left → is_move (said_of event) ≡ true
+    → IsValid hand.setup → AreMovesBefore hand events moves → count < events → ArePrinted hand count made put left before text → event ∷ more ≡ left → is_move_event (said_of event) ≡ true
     → IsNextMove hand moves count made put event more
 next_move hand moves events count made put left more event before text valid begun more_to_come printed front is_so =
     let setup = hand.setup in

@@ -66,12 +66,12 @@ pub fn add_to_sums(sums: &mut Vec<Sums>, play: &Play)
 {
     let pots = pot_total(&play.trace);
     for index in 0..sums.len() {
-        sums[index] = with_hand(sums[index], play, pots);
+        sums[index] = add_hand(sums[index], play, pots);
     }
 }
 
 // The sums with one more hand, which has these pots, if it counts.
-fn with_hand(sums: Sums, play: &Play, pots: u128) -> Sums
+fn add_hand(sums: Sums, play: &Play, pots: u128) -> Sums
     requires few { AreFewSums (MOST_HANDS - 1) sums }
     requires pots { pots ≡ (hand_of play.now).pots }
     requires bounded { pots ≤ MOST_POTS }

@@ -41,7 +41,7 @@ pub fn push_name_line(
     ensures { OnOk result (string_bytes text.new ≡ string_bytes text.old
         ++ name_line (pos tally.finished -ℤ pos tally.started) tally.hands name.now) }
 {
-    push_signed(alloc, text, net_of(tally), 20)?;
+    push_signed(alloc, text, net_chips(tally), 20)?;
     push_number(alloc, text, tally.hands, 8)?;
     text.try_push_str("  ")?;
     text.try_push_str(name)?;
@@ -50,7 +50,7 @@ pub fn push_name_line(
 }
 
 // What a name won or lost.
-fn net_of(tally: Tally) -> i64
+fn net_chips(tally: Tally) -> i64
     requires { IsWithin MOST_SEATS tally }
     ensures { result ≡ pos tally.finished -ℤ pos tally.started }
 {

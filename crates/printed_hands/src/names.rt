@@ -5,7 +5,7 @@ ghost use Rattle.printed_hands.specs.Report.{seated_in};
 ghost use Rattle.printed_hands.specs.Tallies.{AreTallied, AreWithin, MOST_SEATS, named_tallies, with_play};
 
 use crate::index::NameIndex;
-use crate::tally::{NamedTally, no_tally, with_seat};
+use crate::tally::{NamedTally, add_to_tally, new_tally};
 use card_set::Memory;
 use chip_ledger::Seat;
 use first_fault::Text;
@@ -33,12 +33,12 @@ pub fn tally_seat(
     let others = tallies.len();
     let place = places.place_of(alloc, name, others)?;
     if place == others {
-        let tally = with_seat(no_tally(), number, play, seat);
+        let tally = add_to_tally(new_tally(), number, play, seat);
         let name = Text::new(alloc, name)?;
         insert_tally(tallies, place, NamedTally { name, tally })?;
         return Ok(());
     }
-    let tally = with_seat(tallies[place].tally, number, play, seat);
+    let tally = add_to_tally(tallies[place].tally, number, play, seat);
     tallies[place].tally = tally;
     Ok(())
 }

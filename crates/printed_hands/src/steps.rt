@@ -16,7 +16,7 @@ use crate::ending::push_ending;
 use card_set::{Memory, TryWrite, try_write};
 use chip_ledger::SeatRow;
 use hand_canon::{Moves, Record, SoundPlay, Trace, named_move};
-use phh_actions::event_text;
+use phh_actions::write_event;
 use play_event::{Kind, Move, Setup};
 use std::alloc::Global;
 
@@ -160,7 +160,7 @@ fn push_event(
         ++ (decimal number ++ (32 ∷ written.event_text (kind_said kind)
         ++ chips_text setup.now moves))) }
 {
-    let event = event_text(alloc, kind)?;
+    let event = write_event(alloc, kind)?;
     let event = event.as_str();
     try_write!(text, "{number} {event}")?;
     push_chips(text, setup, put)?;

@@ -29,7 +29,7 @@ pub struct NamedTally {
 }
 
 /// The tally of a name that was not seen yet.
-pub fn no_tally() -> Tally
+pub fn new_tally() -> Tally
     ensures { result ≡ tallies.no_tally }
 {
     Tally {
@@ -42,7 +42,7 @@ pub fn no_tally() -> Tally
 
 /// The tally with one more seat, in the hand with this number. If a name has several seats in a
 /// hand, the hand counts once.
-pub fn with_seat(tally: Tally, number: u64, play: &Play, seat: Seat) -> Tally
+pub fn add_to_tally(tally: Tally, number: u64, play: &Play, seat: Seat) -> Tally
     requires { IsWithin MOST_SEATS tally }
     ensures { result ≡ tallies.with_seat number tally (seated_in play.now seat.number) }
 {

@@ -12,15 +12,15 @@ pub loop-place-preserved : goal.loop-place-preserved
 loop-place-preserved c =
     let inv = c.loop-place.invariant in
     let hands : List Record = c.loop-place.hands in
-    let made = c.in-Ok.made in
+    let made = c.in_ok-made.made in
     let seed : ℕ = c.args.seed in
-    let pushed : c.push.new.self ≡ hands ++ made.play.hand ∷ [] = c.in-Ok-push.ensures.pushed in
+    let pushed : c.push.new.self ≡ hands ++ made.play.hand ∷ [] = c.in_ok-push.ensures.pushed in
     let place : c.loop-place.place ≡ 0 + length hands = omega (arith, inv.counted) in
     let more : IsMade (0 + length hands) (number_behind_all seed hands) made.play.hand =
-    subst (λ n. IsMade (0 + length hands) n made.play.hand) inv.number_is (subst (λ n. IsMade n c.loop-place.number made.play.hand) place c.in-Ok.ensures.made) in
+    subst (λ n. IsMade (0 + length hands) n made.play.hand) inv.number_is (subst (λ n. IsMade n c.loop-place.number made.play.hand) place c.in_ok-made.ensures.made) in
     record {
       made = subst (AreMadeFrom 0 seed) (sym pushed) (one_hand_more 0 seed hands made.play.hand inv.made more);
-      number_is = c.in-Ok.ensures.behind ∙ ap (λ n. number_behind n made.play.hand) inv.number_is ∙ sym (ap (number_behind_all seed) pushed ∙ number_more seed hands made.play.hand);
+      number_is = c.in_ok-made.ensures.behind ∙ ap (λ n. number_behind n made.play.hand) inv.number_is ∙ sym (ap (number_behind_all seed) pushed ∙ number_more seed hands made.play.hand);
       counted = ap length pushed ∙ omega (arith, length-append hands (made.play.hand ∷ []), inv.counted);
-      sound = All-same IsSoundHand c.push.new.self (hands ++ made.play.hand ∷ []) pushed (All-push IsSoundHand hands made.play.hand inv.sound (sound_hand made.play c.in-Ok.ensures.sound c.in-Ok.ensures.made.stated));
+      sound = All-same IsSoundHand c.push.new.self (hands ++ made.play.hand ∷ []) pushed (All-push IsSoundHand hands made.play.hand inv.sound (sound_hand made.play c.in_ok-made.ensures.sound c.in_ok-made.ensures.made.stated));
     }

@@ -26,15 +26,15 @@ not_memory (faults.Memory memory) other is = other memory refl
 pub script_by_code-requires : goal.script_by_code-requires
 script_by_code-requires c = record {
   small = made_small c.args.place c.args.number c.setup_at-setup.result c.setup_at-setup.ensures;
-  deck = c.in-Ok.ensures.deck;
+  deck = c.in_ok-stock.ensures.deck;
 }
 
 pub unreachable-requires : goal.unreachable-requires
 unreachable-requires c =
     let setup = c.setup_at-setup.result in
-    let script = c.in-Ok-script_by_code.script in
-    let legal = subst (λ (r : Rules). IsLegalHand setup r (map said_of script)) (sym c.history_rules-rules.ensures) c.in-Ok-script_by_code.ensures.legal in
-    no_fault setup c.history_rules-rules.result script c.in-Err-replay.fault (not_memory c.in-Err-replay.fault c.in_default.not-Memory) legal c.in-Err-replay.ensures.fault
+    let script = c.in_ok-script.script in
+    let legal = subst (λ (r : Rules). IsLegalHand setup r (map said_of script)) (sym c.history_rules-rules.ensures) c.in_ok-script.ensures.legal in
+    no_fault setup c.history_rules-rules.result script c.in-Err.fault (not_memory c.in-Err.fault c.in_default.not-Memory) legal c.in-Err.ensures.fault
 
 pub replay-requires-clause-valid : goal.replay-requires-clause-valid
 replay-requires-clause-valid c = made_valid c.args.place c.args.number c.setup_at-setup.result c.setup_at-setup.ensures
@@ -42,12 +42,12 @@ replay-requires-clause-valid c = made_valid c.args.place c.args.number c.setup_a
 pub returns-clause-made : goal.returns-clause-made
 returns-clause-made c =
     let setup = c.setup_at-setup.result in
-    let start : c.in-Ok.stock ≡ source_of c.args.number setup =
-    same_source c.in-Ok.stock (number_behind_setup c.args.number setup) (full_deck setup.code) (c.in-Ok.ensures.number ∙ c.number_behind_setup-start.ensures) c.in-Ok.ensures.deck in
+    let start : c.in_ok-stock.stock ≡ source_of c.args.number setup =
+    same_source c.in_ok-stock.stock (number_behind_setup c.args.number setup) (full_deck setup.code) (c.in_ok-stock.ensures.number ∙ c.advance_past_setup-start.ensures) c.in_ok-stock.ensures.deck in
     record {
       setup = c.setup_at-setup.ensures;
       rules = c.history_rules-rules.ensures;
-      script = subst (λ (s : HandSource). IsMadeScript setup s c.in-Ok-script_by_code.script) start c.in-Ok-script_by_code.ensures.made;
+      script = subst (λ (s : HandSource). IsMadeScript setup s c.in_ok-script.script) start c.in_ok-script.ensures.made;
       stated = c.nothing.ensures;
       notes = c.none.ensures;
     }
@@ -57,8 +57,8 @@ returns-clause-sound c =
     let setup = c.setup_at-setup.result in
     record {
       valid = made_valid c.args.place c.args.number setup c.setup_at-setup.ensures;
-      within = c.in-Ok-script_by_code.ensures.within;
-      legal = c.in-Ok-replay.ensures.legal;
-      trace = c.in-Ok-replay.ensures.trace;
+      within = c.in_ok-script.ensures.within;
+      legal = c.in-Ok.ensures.legal;
+      trace = c.in-Ok.ensures.trace;
       notes = none_allowed setup.stacks.seats c.none.result c.none.ensures;
     }

@@ -16,6 +16,6 @@ loop-index-preserved c =
     let item_is : item ≡ get_or old index item =
     c.index.ensures ∙ ap (λ (sums : List Sums). get_or sums index item) c.loop-index.invariant ∙ unchanged_at f old index item within in
     let next : suc index ≡ index + 1 = omega arith in
-    (λ i. slice_set (c.loop-index.invariant i) index ((c.with_hand.ensures ∙ ap f item_is) i))
+    (λ i. slice_set (c.loop-index.invariant i) index ((c.add_hand.ensures ∙ ap f item_is) i))
     ∙ changed_next f old index item within
     ∙ ap (changed f old) next

@@ -27,13 +27,13 @@ module _ (c : goal.In_ok-insert_tally) where
   placed = is_place c.args.places.now entries name c.in_ok-place.place c.len-others.result c.requires.tallied c.len-others.ensures.len c.in_ok-place.ensures.place
 
   abbrev named : NamedTally
-  named = record { name = c.in_ok-name.name; tally = c.with_seat-tally.result }
+  named = record { name = c.in_ok-name.name; tally = c.add_to_tally-tally.result }
 
-  tally_is : c.with_seat-tally.result ≡ with_seat c.args.number (tally_at (named_tallies entries) name) (seated_in c.args.play.now c.args.seat.number)
+  tally_is : c.add_to_tally-tally.result ≡ with_seat c.args.number (tally_at (named_tallies entries) name) (seated_in c.args.play.now c.args.seat.number)
   tally_is =
-      c.with_seat-tally.ensures
+      c.add_to_tally-tally.ensures
       ∙ ap (λ (its : Tally). with_seat c.args.number its (seated_in c.args.play.now c.args.seat.number))
-      (c.no_tally.ensures ∙ none_found entries name c.in_ok-place.place c.requires.tallied.places placed (omega (arith, c.if-place-others.true, c.len-others.ensures.len)))
+      (c.new_tally.ensures ∙ none_found entries name c.in_ok-place.place c.requires.tallied.places placed (omega (arith, c.if-place-others.true, c.len-others.ensures.len)))
 
 pub returns-then-place-others-clause-rows : goal.returns-then-place-others-clause-rows
 returns-then-place-others-clause-rows c =
@@ -66,8 +66,8 @@ index_mut-requires c =
     known_within c.args.places.now c.args.tallies.now.entries c.name_of-name.result.now c.in_ok-place.place c.len-others.result
     c.requires.tallied c.len-others.ensures.len c.in_ok-place.ensures.place c.if-place-others.false
 
-pub with_seat-tally-requires-2 : goal.with_seat-tally-requires-2
-with_seat-tally-requires-2 c =
+pub add_to_tally-tally-requires-2 : goal.add_to_tally-tally-requires-2
+add_to_tally-tally-requires-2 c =
     let entries = c.args.tallies.now.entries in
     let name = c.name_of-name.result.now in
     let place = c.in_ok-place.place in
@@ -91,11 +91,11 @@ module _ (c : goal.After-tallies-1) where
   within = place_within old asked c.in_ok-place.place c.len-others.result at c.len-others.ensures.len c.if-place-others.false
 
   abbrev put : NamedTally
-  put = record { name = c.index_mut.result.now.name; tally = c.with_seat-tally-2.result }
+  put = record { name = c.index_mut.result.now.name; tally = c.add_to_tally-tally-2.result }
 
-  its : c.with_seat-tally-2.result ≡ with_seat c.args.number (tally_at (named_tallies old) asked) (seated_in c.args.play.now c.args.seat.number)
+  its : c.add_to_tally-tally-2.result ≡ with_seat c.args.number (tally_at (named_tallies old) asked) (seated_in c.args.play.now c.args.seat.number)
   its =
-      c.with_seat-tally-2.ensures
+      c.add_to_tally-tally-2.ensures
       ∙ ap (λ (tally : Tally). with_seat c.args.number tally (seated_in c.args.play.now c.args.seat.number))
       (tally_found old asked c.in_ok-place.place c.index.result.now c.requires.tallied.places at c.index.ensures)
 

@@ -3,7 +3,7 @@ use Rattle.std.specs.List.{range_with_len}
 use Rattle.chip_ledger.specs.LiveRow.{flag_of}
 use Rattle.chip_ledger.specs.Seat.{seats_of}
 use Rattle.hand_differences.specs.SameParts.{is_same_test}
-use Rattle.hand_differences.proofs.lists.shown_difference.Given as goal
+use Rattle.hand_differences.proofs.lists.find_shown_difference.Given as goal
 
 -- the first seat is one of those to come
 abbrev pub invariant-loop-index : goal.invariant-loop-index

@@ -3,7 +3,7 @@ use Rattle.std.proofs.Common.{◌∙◌, not, sym}
 use Rattle.chip_ledger.specs.LiveRow.{flag_of}
 use Rattle.hand_differences.proofs.FirstNumbers.{next_number}
 use Rattle.hand_differences.specs.SameParts.{is_same_test}
-use Rattle.hand_differences.proofs.lists.shown_difference.Goals as goal
+use Rattle.hand_differences.proofs.lists.find_shown_difference.Goals as goal
 
 pub loop-index-preserved : goal.loop-index-preserved
 loop-index-preserved c =
