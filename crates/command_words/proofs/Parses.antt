@@ -16,7 +16,7 @@ use Rattle.clap.specs.declared.parser.matches.ValueSource.TheVariants.{CommandLi
 use Rattle.clap.specs.Simple.{Shape, built, filled, help_rule, is_simple, matches_of, new_rule, with_index}
 use Rattle.clap.proofs.OnLiterals.{clap_on_literals}
 use Rattle.command_words.specs.Requests.{flag_text}
-use Rattle.command_words.specs.GivenOptions.{GivenOptions, is_complete, is_flag, is_of_other, no_options, options_said, with_flag, with_new, with_option, with_other, with_word}
+use Rattle.command_words.specs.GivenOptions.{GivenOptions, flags, is_complete, names_flag, no_options, options_said, valued_options, with_given, with_one_flag, with_one_of, with_word}
 use Rattle.command_words.specs.Parser.{are_taken, flag_rule, handref, option_rule}
 use Rattle.command_words.proofs.Finds.{Hold, Named, at_row-end, given, has_row-named, hold_given, row_named}
 use Rattle.command_words.proofs.Walking.{IsBetween, IsFlag, IsOption, alone, alone_taken, apart, first, first_taken, joined, joined_taken, option_taken, value_taken}
@@ -192,10 +192,10 @@ street_given options value none = record {
   same = λ first. refl;
 }
 
-with_given : (options : GivenOptions) (value : Text) → options.other_file ≡ None
+with_given_file : (options : GivenOptions) (value : Text) → options.other_file ≡ None
     → IsGiven options (codes "with") value (record options { other_file = Some value })
 unfolding clap_on_literals
-with_given options value none = record {
+with_given_file options value none = record {
   argument = option (codes "with");
   stands = record { by_name = refl; by_id = refl; takes = refl; most = refl; own = refl; once = option_once (codes "with") };
   sets = refl;
@@ -231,11 +231,11 @@ past_hyphen : {A : Type 0} (x : Option A) {B : Type 0} (others : Option B) (more
 past_hyphen None others more e = (refl, e)
 past_hyphen (Some x) others more e = cc
 
-is_given : (options more : GivenOptions) (name value : Text) → with_option options name value ≡ Some more
+is_given : (options more : GivenOptions) (name value : Text) → with_given options name value ≡ Some more
     → (strip_byte 45 value ≡ None) × IsGiven options name value more
 is_given options more name value e =
     let past = past_hyphen (strip_byte 45 value) _ more e in
-    (past.0, either_kind (is_of_other name) past.1)
+    (past.0, among past.1)
   where
     by : (own : Text) (kept : Option Text) (taken : GivenOptions) (others : Option GivenOptions) → (kept ≡ None → IsGiven options own value taken)
         → (others ≡ Some more → IsGiven options name value more)
@@ -243,12 +243,8 @@ is_given options more name value e =
     by own kept taken others here there =
         either options more taken name own value kept others (bytes_eq name own) (not (is_some kept)) (bytes_eq-Decides name own) (none_from_not kept) here there
 
-    either_kind : (other : Bool) → (if other then with_other options name value else with_new options name value) ≡ Some more
-        → IsGiven options name value more
-    either_kind true e =
-        by (codes "with") options.other_file _ _ (with_given options value)
-        (by (codes "as") options.other_notation _ _ (as_given options value) (λ none. cc)) e
-    either_kind false e =
+    among : with_one_of valued_options options name value ≡ Some more → IsGiven options name value more
+    among =
         by (codes "from") options.from _ _ (from_given options value)
         (by (codes "to") options.to _ _ (to_given options value)
         (by (codes "game") options.game _ _ (game_given options value)
@@ -257,7 +253,9 @@ is_given options more name value e =
         (by (codes "seat") options.seat _ _ (seat_given options value)
         (by (codes "hand") options.hand _ _ (hand_given options value)
         (by (codes "after") options.after _ _ (after_given options value)
-        (by (codes "street") options.street _ _ (street_given options value) (λ none. cc))))))))) e
+        (by (codes "street") options.street _ _ (street_given options value)
+        (by (codes "with") options.other_file _ _ (with_given_file options value)
+        (by (codes "as") options.other_notation _ _ (as_given options value) (λ none. cc)))))))))))
 
 -- a walk over words
 abbrev over : Walk → List Text → Walk
@@ -403,7 +401,7 @@ either_flag options more taken name own false others true decides here there e =
 either_flag options more taken name own true others true decides here there e = there e
 either_flag options more taken name own stood others false decides here there e = there e
 
-is_set : (options more : GivenOptions) (name : Text) → with_flag options name ≡ Some more → IsSet options name more
+is_set : (options more : GivenOptions) (name : Text) → with_one_flag flags options name ≡ Some more → IsSet options name more
 is_set options more name e =
     by (codes "drop-notes") options.drops_notes _ _ (drop_notes_set options)
     (by (codes "no-notes") options.ignores_notes _ _ (no_notes_set options)
@@ -417,7 +415,7 @@ is_set options more name e =
         either_flag options more taken name own stood others (bytes_eq name own) (bytes_eq-Decides name own) here there
 
 one_flag : (walk : Walk) (first word name : Text) (options more : GivenOptions) → IsAt walk first options
-    → long_of word ≡ Some (name, None) → with_flag options name ≡ Some more → Goes walk (word ∷ []) first more
+    → long_of word ≡ Some (name, None) → with_one_flag flags options name ≡ Some more → Goes walk (word ∷ []) first more
 one_flag walk first word name options more at is e =
     let new = is_set options more name e in
     one_turn walk word first more
@@ -449,9 +447,9 @@ last : (walk : Walk) (first word : Text) (options more : GivenOptions) (found : 
 last walk first word options more None at is e = cc
 last walk first word options more (Some (name, Some value)) at is e =
     one_joined walk first word name value options more at is (is_given options more name value e).1
-last walk first word options more (Some (name, None)) at is e = go (is_flag name) e
+last walk first word options more (Some (name, None)) at is e = go (names_flag name) e
   where
-    go : (b : Bool) → (if b then with_flag options name else None) ≡ Some more → Goes walk (word ∷ []) first more
+    go : (b : Bool) → (if b then with_one_flag flags options name else None) ≡ Some more → Goes walk (word ∷ []) first more
     go true e = one_flag walk first word name options more at is e
     go false e = cc
 
@@ -462,22 +460,22 @@ next : (walk : Walk) (first word value : Text) (words : List Text) (options more
     → Goes walk (word ∷ value ∷ words) first more
 next walk first word value words options more None from_value from_words at is e = cc
 next walk first word value words options more (Some (name, Some own)) from_value from_words at is e =
-    let step = followed (with_option options name own) (λ some. options_said some (value ∷ words)) more e in
+    let step = followed (with_given options name own) (λ some. options_said some (value ∷ words)) more e in
     let new = is_given options step.0 name own step.1.0 in
     let one = one_joined walk first word name own options step.0 at is new.1 in
     behind_one walk word (value ∷ words) first step.0 more one (from_value (over walk (word ∷ [])) step.0 one.at step.1.1)
 next walk first word value words options more (Some (name, None)) from_value from_words at is e =
-    go (is_flag name) e
+    go (names_flag name) e
   where
     go : (b : Bool) → option_and_then (λ some. if b then options_said some (value ∷ words) else options_said some words)
-        (if b then with_flag options name else with_option options name value) ≡ Some more
+        (if b then with_one_flag flags options name else with_given options name value) ≡ Some more
         → Goes walk (word ∷ value ∷ words) first more
     go true e =
-        let step = followed (with_flag options name) (λ some. options_said some (value ∷ words)) more e in
+        let step = followed (with_one_flag flags options name) (λ some. options_said some (value ∷ words)) more e in
         let one = one_flag walk first word name options step.0 at is step.1.0 in
         behind_one walk word (value ∷ words) first step.0 more one (from_value (over walk (word ∷ [])) step.0 one.at step.1.1)
     go false e =
-        let step = followed (with_option options name value) (λ some. options_said some words) more e in
+        let step = followed (with_given options name value) (λ some. options_said some words) more e in
         let new = is_given options step.0 name value step.1.0 in
         let two = one_apart walk first word name value options step.0 at is new.0 new.1 in
         behind_two walk word value words first step.0 more two (from_words (over walk (word ∷ value ∷ [])) step.0 two.at step.1.1)

@@ -81,9 +81,9 @@ input_of (Compare from other file notes) = Some from
 input_of (Load seed hands) = None
 
 -- the command reads an input
-abbrev pub reads_input : {N : Type 0} → Command N → Bool
-reads_input (Load seed hands) = false
-reads_input command = true
+abbrev pub has_input : {N : Type 0} → Command N → Bool
+has_input (Load seed hands) = false
+has_input command = true
 
 -- the other file that the command reads, if it reads one
 abbrev pub file_of : {N : Type 0} → Command N → Option (List ℕ)
@@ -91,29 +91,29 @@ file_of (Compare from other file notes) = Some file
 file_of command = None
 
 -- the command reads another file
-abbrev pub reads_file : {N : Type 0} → Command N → Bool
-reads_file command = is_some (file_of command)
+abbrev pub has_other_file : {N : Type 0} → Command N → Bool
+has_other_file command = is_some (file_of command)
 
 -- the notation is that of logs
-abbrev pub is_log : NotationName → Bool
-is_log (names.Plain notation) = false
-is_log names.Acpc = true
+abbrev pub is_of_logs : NotationName → Bool
+is_of_logs (names.Plain notation) = false
+is_of_logs names.Acpc = true
 
 -- one of the notations of the command is that of logs
-abbrev pub names_log : Command NotationName → Bool
-names_log (Check from) = is_log from
-names_log (Replay from) = is_log from
-names_log (Report from) = is_log from
-names_log (Session from) = is_log from
-names_log (Game from) = is_log from
-names_log (Options from hand events) = is_log from
-names_log (Equity from hand street) = is_log from
-names_log (Judge from lines) = is_log from
-names_log (Views from seat) = is_log from
-names_log (Each from question) = is_log from
-names_log (Convert from to keep) = is_log from || is_log to
-names_log (Compare from other file notes) = is_log from || is_log other
-names_log (Load seed hands) = false
+abbrev pub is_about_logs : Command NotationName → Bool
+is_about_logs (Check from) = is_of_logs from
+is_about_logs (Replay from) = is_of_logs from
+is_about_logs (Report from) = is_of_logs from
+is_about_logs (Session from) = is_of_logs from
+is_about_logs (Game from) = is_of_logs from
+is_about_logs (Options from hand events) = is_of_logs from
+is_about_logs (Equity from hand street) = is_of_logs from
+is_about_logs (Judge from lines) = is_of_logs from
+is_about_logs (Views from seat) = is_of_logs from
+is_about_logs (Each from question) = is_of_logs from
+is_about_logs (Convert from to keep) = is_of_logs from || is_of_logs to
+is_about_logs (Compare from other file notes) = is_of_logs from || is_of_logs other
+is_about_logs (Load seed hands) = false
 
 -- what two values give, if both are given
 abbrev pub with_both : {X Y Z : Type 0} → (X → Y → Option Z) → Option X → Option Y → Option Z

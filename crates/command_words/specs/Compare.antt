@@ -1,6 +1,6 @@
 -- What the words of `compare` ask for.
 use Rattle.std.specs.Prelude.{ℕ, not, false, if◌then◌else◌, List, [], ◌∷◌, Option, Some, None, option_map}
-use Rattle.command_words.specs.GivenOptions.{GivenOptions, are_none}
+use Rattle.command_words.specs.GivenOptions.{GivenOptions, no_option_given}
 use Rattle.command_words.specs.Command.{Command, with_both}
 use Rattle.command_words.specs.Notations.{notation_named}
 use Rattle.command_words.specs.Command as commands
@@ -15,7 +15,7 @@ file_named (Some (first ∷ others)) = Some (first ∷ others)
 -- `compare` takes --from, --with, --as, --game if one of the two is a log, and --no-notes
 abbrev pub comparison_asked : GivenOptions → Option (Command NotationName)
 comparison_asked options =
-    if are_none (record options
+    if no_option_given (record options
     { from = None; game = None; other_file = None; other_notation = None; ignores_notes = false })
     then with_both
     (λ from other. option_map (λ file. commands.Compare from other file (not options.ignores_notes))

@@ -1,6 +1,6 @@
 -- What the words of `convert` ask for.
 use Rattle.std.specs.Prelude.{Bool, false, if◌then◌else◌, Option, Some, None}
-use Rattle.command_words.specs.GivenOptions.{GivenOptions, are_none}
+use Rattle.command_words.specs.GivenOptions.{GivenOptions, no_option_given}
 use Rattle.command_words.specs.Command.{Command, with_both}
 use Rattle.command_words.specs.Notations.{notation_named}
 use Rattle.command_words.specs.Command as commands
@@ -15,7 +15,7 @@ keep_said drops_notes = if drops_notes then keeps.Spelled else keeps.All
 -- `convert` takes --from, --to, --game for logs, and --drop-notes
 abbrev pub conversion_asked : GivenOptions → Option (Command NotationName)
 conversion_asked options =
-    if are_none (record options { from = None; to = None; game = None; drops_notes = false })
+    if no_option_given (record options { from = None; to = None; game = None; drops_notes = false })
     then with_both (λ from to. Some (commands.Convert from to (keep_said options.drops_notes)))
     (notation_named options.from) (notation_named options.to)
     else None

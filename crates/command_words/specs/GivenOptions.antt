@@ -1,6 +1,7 @@
 -- The options of a command line: each at most once, in any order, written --name=value or --name
 -- value.
-use Rattle.std.specs.Prelude.{◌&&◌, ◌||◌, not, Bool, true, false, if◌then◌else◌, List, [], ◌∷◌, ℕ, codes, Option, Some, None, is_some, is_none, option_and_then}
+use Rattle.std.specs.Prelude.{◌&&◌, ◌||◌, not, Bool, true, false, if◌then◌else◌, List, [], ◌∷◌, ◌++◌, ℕ, codes, Option, Some, None, is_some, is_none, option_and_then}
+use Rattle.std.specs.List.{list_all, list_any}
 use Rattle.std.specs.Str.{bytes_eq}
 use Rattle.clap.specs.Lexer.{long_of, strip_byte}
 
@@ -57,118 +58,131 @@ no_options = record {
   asks_each = false;
 }
 
--- no notation and no game is given: no --from, --to, --game
-abbrev pub lack_names : GivenOptions → Bool
-lack_names options = is_none options.from && is_none options.to && is_none options.game
+-- An option with a value: its name, the value that is given, and the options with another value.
+pub record ValuedOption : Type 0 where
+  pub name : List ℕ
+  pub given : GivenOptions → Option (List ℕ)
+  pub give : GivenOptions → Option (List ℕ) → GivenOptions
 
--- no option about made hands is given: no --seed, --hands
-abbrev pub lack_counts : GivenOptions → Bool
-lack_counts options = is_none options.seed && is_none options.hands
+abbrev pub valued : List ℕ → (GivenOptions → Option (List ℕ))
+    → (GivenOptions → Option (List ℕ) → GivenOptions) → ValuedOption
+valued name given give = record { name = name; given = given; give = give }
 
--- no seat, hand or place in a hand is given
-abbrev pub lack_places : GivenOptions → Bool
-lack_places options =
-    is_none options.seat && is_none options.hand && is_none options.after && is_none options.street
+-- the options about notations and logs
+abbrev pub notation_options : List ValuedOption
+notation_options =
+    valued (codes "from") (λ it. it.from) (λ it value. record it { from = value })
+    ∷ valued (codes "to") (λ it. it.to) (λ it value. record it { to = value })
+    ∷ valued (codes "game") (λ it. it.game) (λ it value. record it { game = value }) ∷ []
 
--- no option about the other file is given: no --with, --as
-abbrev pub lack_other : GivenOptions → Bool
-lack_other options = is_none options.other_file && is_none options.other_notation
+-- the options about made hands
+abbrev pub made_options : List ValuedOption
+made_options =
+    valued (codes "seed") (λ it. it.seed) (λ it value. record it { seed = value })
+    ∷ valued (codes "hands") (λ it. it.hands) (λ it value. record it { hands = value }) ∷ []
+
+-- the options about a seat, or a place in a hand
+abbrev pub place_options : List ValuedOption
+place_options =
+    valued (codes "seat") (λ it. it.seat) (λ it value. record it { seat = value })
+    ∷ valued (codes "hand") (λ it. it.hand) (λ it value. record it { hand = value })
+    ∷ valued (codes "after") (λ it. it.after) (λ it value. record it { after = value })
+    ∷ valued (codes "street") (λ it. it.street) (λ it value. record it { street = value }) ∷ []
+
+-- the options about the other file
+abbrev pub other_options : List ValuedOption
+other_options =
+    valued (codes "with") (λ it. it.other_file) (λ it value. record it { other_file = value })
+    ∷ valued (codes "as") (λ it. it.other_notation)
+    (λ it value. record it { other_notation = value })
+    ∷ []
+
+-- all options with a value
+abbrev pub valued_options : List ValuedOption
+valued_options = notation_options ++ (made_options ++ (place_options ++ other_options))
+
+-- A flag, which is an option without a value: its name, whether it is given, and the options with
+-- it.
+pub record Flag : Type 0 where
+  pub name : List ℕ
+  pub is_given : GivenOptions → Bool
+  pub give : GivenOptions → GivenOptions
+
+abbrev pub as_flag : List ℕ → (GivenOptions → Bool) → (GivenOptions → GivenOptions) → Flag
+as_flag name is_given give = record { name = name; is_given = is_given; give = give }
+
+-- all flags
+abbrev pub flags : List Flag
+flags =
+    as_flag (codes "drop-notes") (λ it. it.drops_notes) (λ it. record it { drops_notes = true })
+    ∷ as_flag (codes "no-notes") (λ it. it.ignores_notes) (λ it. record it { ignores_notes = true })
+    ∷ as_flag (codes "lines") (λ it. it.shows_lines) (λ it. record it { shows_lines = true })
+    ∷ as_flag (codes "each") (λ it. it.asks_each) (λ it. record it { asks_each = true }) ∷ []
+
+-- ---- what is given
+
+-- none of these options is given
+abbrev pub none_given : List ValuedOption → GivenOptions → Bool
+none_given rows options = list_all (λ row. is_none (row.given options)) rows
 
 -- no flag is given
-abbrev pub lack_flags : GivenOptions → Bool
-lack_flags options =
-    not options.drops_notes && not options.ignores_notes && not options.shows_lines
-    && not options.asks_each
+abbrev pub no_flag_given : GivenOptions → Bool
+no_flag_given options = list_all (λ row. not (row.is_given options)) flags
 
 -- no option is given
-abbrev pub are_none : GivenOptions → Bool
-are_none options =
-    lack_names options && lack_counts options && lack_places options && lack_other options
-    && lack_flags options
+abbrev pub no_option_given : GivenOptions → Bool
+no_option_given options = none_given valued_options options && no_flag_given options
 
 -- an option has this name, and is not given yet
 abbrev pub is_new : (name own : List ℕ) → Option (List ℕ) → Bool
 is_new name own given = bytes_eq name own && not (is_some given)
 
--- the option is about the other file: with or as
-abbrev pub is_of_other : List ℕ → Bool
-is_of_other name = bytes_eq name (codes "with") || bytes_eq name (codes "as")
+-- the options with this value for the one of these that has this name; it may be given once
+abbrev pub with_one_of : List ValuedOption → GivenOptions → (name value : List ℕ)
+    → Option GivenOptions
+with_one_of [] options name value = None
+with_one_of (row ∷ rows) options name value =
+    if is_new name row.name (row.given options) then Some (row.give options (Some value))
+    else with_one_of rows options name value
 
--- the options with one more about the other file; it may be given once
-abbrev pub with_other : GivenOptions → List ℕ → List ℕ → Option GivenOptions
-with_other options name value =
-    if is_new name (codes "with") options.other_file
-    then Some (record options { other_file = Some value })
-    else if is_new name (codes "as") options.other_notation
-    then Some (record options { other_notation = Some value })
-    else None
-
--- the options with one more about a seat or a place in a hand; it may be given once
-abbrev pub with_place : GivenOptions → List ℕ → List ℕ → Option GivenOptions
-with_place options name value =
-    if is_new name (codes "seat") options.seat then Some (record options { seat = Some value })
-    else if is_new name (codes "hand") options.hand then Some (record options { hand = Some value })
-    else if is_new name (codes "after") options.after
-    then Some (record options { after = Some value })
-    else if is_new name (codes "street") options.street
-    then Some (record options { street = Some value })
-    else None
-
--- the options with one more of this name and value; each may be given once
-abbrev pub with_new : GivenOptions → List ℕ → List ℕ → Option GivenOptions
-with_new options name value =
-    if is_new name (codes "from") options.from then Some (record options { from = Some value })
-    else if is_new name (codes "to") options.to then Some (record options { to = Some value })
-    else if is_new name (codes "game") options.game then Some (record options { game = Some value })
-    else if is_new name (codes "seed") options.seed then Some (record options { seed = Some value })
-    else if is_new name (codes "hands") options.hands
-    then Some (record options { hands = Some value })
-    else with_place options name value
-
--- the same, if the value does not begin with a hyphen
-abbrev pub with_option : GivenOptions → List ℕ → List ℕ → Option GivenOptions
-with_option options name value =
+-- the options with this value for the option of this name; no value begins with a hyphen
+abbrev pub with_given : GivenOptions → (name value : List ℕ) → Option GivenOptions
+with_given options name value =
     if is_some (strip_byte 45 value) then None
-    else if is_of_other name then with_other options name value
-    else with_new options name value
+    else with_one_of valued_options options name value
 
--- the options with the flag of this name; each may be given once
-abbrev pub with_flag : GivenOptions → List ℕ → Option GivenOptions
-with_flag options name =
-    if bytes_eq name (codes "drop-notes") && not options.drops_notes
-    then Some (record options { drops_notes = true })
-    else if bytes_eq name (codes "no-notes") && not options.ignores_notes
-    then Some (record options { ignores_notes = true })
-    else if bytes_eq name (codes "lines") && not options.shows_lines
-    then Some (record options { shows_lines = true })
-    else if bytes_eq name (codes "each") && not options.asks_each
-    then Some (record options { asks_each = true })
-    else None
+-- the options with the one of these flags that has this name; it may be given once
+abbrev pub with_one_flag : List Flag → GivenOptions → (name : List ℕ) → Option GivenOptions
+with_one_flag [] options name = None
+with_one_flag (row ∷ rows) options name =
+    if bytes_eq name row.name && not (row.is_given options) then Some (row.give options)
+    else with_one_flag rows options name
 
--- the option is a flag, which has no value
-abbrev pub is_flag : List ℕ → Bool
-is_flag name =
-    bytes_eq name (codes "drop-notes") || bytes_eq name (codes "no-notes")
-    || bytes_eq name (codes "lines") || bytes_eq name (codes "each")
+-- the option is a flag
+abbrev pub names_flag : List ℕ → Bool
+names_flag name = list_any (λ row. bytes_eq name row.name) flags
+
+-- ---- words
 
 -- the options with the option of this name, whose value may be the next word
 abbrev pub with_value : GivenOptions → List ℕ → Option (List ℕ) → Option GivenOptions
 with_value options name None = None
-with_value options name (Some value) = with_option options name value
+with_value options name (Some value) = with_given options name value
 
 -- the options with this option; its value is in the same word or else, if it needs one, this next
 -- word
 abbrev pub with_word : GivenOptions → Option (List ℕ × Option (List ℕ)) → Option (List ℕ)
     → Option GivenOptions
 with_word options None behind = None
-with_word options (Some (name, Some value)) behind = with_option options name value
+with_word options (Some (name, Some value)) behind = with_given options name value
 with_word options (Some (name, None)) behind =
-    if is_flag name then with_flag options name else with_value options name behind
+    if names_flag name then with_one_flag flags options name
+    else with_value options name behind
 
 -- the option needs no value from the next word
 abbrev pub is_complete : Option (List ℕ × Option (List ℕ)) → Bool
 is_complete None = false
-is_complete (Some (name, value)) = is_some value || is_flag name
+is_complete (Some (name, value)) = is_some value || names_flag name
 
 -- The options with those of these words. An option is one word --name=value, two words --name and
 -- value, or a flag.

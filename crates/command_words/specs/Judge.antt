@@ -1,6 +1,6 @@
 -- What the words of `judge` ask for.
 use Rattle.std.specs.Prelude.{Bool, true, false, if◌then◌else◌, Option, Some, None, option_and_then}
-use Rattle.command_words.specs.GivenOptions.{GivenOptions, are_none}
+use Rattle.command_words.specs.GivenOptions.{GivenOptions, no_option_given}
 use Rattle.command_words.specs.Notations.{notation_named}
 use Rattle.command_words.specs.Command as commands
 use Rattle.command_words.specs.Command.{Command}
@@ -17,6 +17,6 @@ verdicts_of lines from = Some (commands.Judge from lines)
 -- `judge` takes --from, --game for logs, and --lines
 abbrev pub judge_asked : GivenOptions → Option (Command NotationName)
 judge_asked options =
-    if are_none (record options { from = None; game = None; shows_lines = false })
+    if no_option_given (record options { from = None; game = None; shows_lines = false })
     then option_and_then (verdicts_of options.shows_lines) (notation_named options.from)
     else None

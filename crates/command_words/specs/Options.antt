@@ -1,6 +1,6 @@
 -- What the words of `options` ask for.
 use Rattle.std.specs.Prelude.{ℕ, Bool, false, if◌then◌else◌, List, Option, Some, None, option_and_then, option_map}
-use Rattle.command_words.specs.GivenOptions.{GivenOptions, are_none}
+use Rattle.command_words.specs.GivenOptions.{GivenOptions, no_option_given}
 use Rattle.command_words.specs.Command.{Command, with_both}
 use Rattle.command_words.specs.Notations.{notation_named}
 use Rattle.command_words.specs.Numbers.{events_said, hand_said}
@@ -24,7 +24,7 @@ points_asked each (Some text) from hand = option_map (point_asked each from hand
 -- `options` takes --from, --game for logs, --hand, --after and --each
 abbrev pub options_asked : GivenOptions → Option (Command NotationName)
 options_asked options =
-    if are_none (record options
+    if no_option_given (record options
     { from = None; game = None; hand = None; after = None; asks_each = false })
     then with_both (points_asked options.asks_each options.after) (notation_named options.from)
     (option_and_then hand_said options.hand)

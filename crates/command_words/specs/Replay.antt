@@ -1,6 +1,6 @@
 -- What the words of `replay` ask for.
 use Rattle.std.specs.Prelude.{Bool, if◌then◌else◌, false, Option, None, option_map}
-use Rattle.command_words.specs.GivenOptions.{GivenOptions, are_none}
+use Rattle.command_words.specs.GivenOptions.{GivenOptions, no_option_given}
 use Rattle.command_words.specs.Notations.{notation_named}
 use Rattle.command_words.specs.Command as commands
 use Rattle.command_words.specs.Command.{Command}
@@ -14,6 +14,6 @@ replay_of each from = if each then commands.Each from of_each.Replay else comman
 -- `replay` takes --from, --game for logs, and --each
 abbrev pub replay_asked : GivenOptions → Option (Command NotationName)
 replay_asked options =
-    if are_none (record options { from = None; game = None; asks_each = false })
+    if no_option_given (record options { from = None; game = None; asks_each = false })
     then option_map (replay_of options.asks_each) (notation_named options.from)
     else None

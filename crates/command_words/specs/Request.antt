@@ -1,7 +1,7 @@
 -- What a command line asks for: a command, with its game file.
 use Rattle.std.specs.Prelude.{ℕ, if◌then◌else◌, List, [], ◌∷◌, Option, Some, None, option_map}
-use Rattle.command_words.specs.Command.{Command, names_log, plain_command}
-use Rattle.command_words.specs.GivenOptions.{GivenOptions, are_none}
+use Rattle.command_words.specs.Command.{Command, is_about_logs, plain_command}
+use Rattle.command_words.specs.GivenOptions.{GivenOptions, no_option_given}
 use Rattle.command_words.specs.Notations.{notation_named}
 use Rattle.command_words.specs.declared.notation.NotationName.{NotationName}
 use Rattle.command_words.specs.declared.notation.PlainNotation.{PlainNotation}
@@ -18,10 +18,11 @@ abbrev pub under_game : (game : Option (List ℕ)) → Command NotationName → 
 under_game None command = option_map Plain (plain_command command)
 under_game (Some []) command = None
 under_game (Some (first ∷ others)) command =
-    if names_log command then Some (Under (first ∷ others) command) else None
+    if is_about_logs command then Some (Under (first ∷ others) command) else None
 
 -- the notation of the input, if no option is given but --from and --game
 abbrev pub input_alone : GivenOptions → Option NotationName
 input_alone options =
-    if are_none (record options { from = None; game = None }) then notation_named options.from
+    if no_option_given (record options { from = None; game = None })
+    then notation_named options.from
     else None

@@ -1,6 +1,6 @@
 -- What the words of `views` ask for.
 use Rattle.std.specs.Prelude.{if◌then◌else◌, Option, Some, None, option_and_then}
-use Rattle.command_words.specs.GivenOptions.{GivenOptions, are_none}
+use Rattle.command_words.specs.GivenOptions.{GivenOptions, no_option_given}
 use Rattle.command_words.specs.Command.{Command, with_both}
 use Rattle.command_words.specs.Notations.{notation_named}
 use Rattle.command_words.specs.Numbers.{seat_said}
@@ -17,6 +17,6 @@ views_of names.Acpc seat = Some (commands.Views names.Acpc seat)
 -- `views` takes --from, which must be a log, --game and --seat
 abbrev pub views_asked : GivenOptions → Option (Command NotationName)
 views_asked options =
-    if are_none (record options { from = None; game = None; seat = None })
+    if no_option_given (record options { from = None; game = None; seat = None })
     then with_both views_of (notation_named options.from) (option_and_then seat_said options.seat)
     else None

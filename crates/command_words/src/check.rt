@@ -7,13 +7,13 @@ ghost use Rattle.command_words.specs.Check.{check_asked};
 use crate::command::Command;
 use crate::given_options::GivenOptions;
 use crate::notation::NotationName;
-use crate::request::input_alone;
+use crate::request::parse_notation_alone;
 
 /// What `check` asks for with these options, which are the notation and the game.
 pub fn command(options: GivenOptions<'_>) -> Option<Command<NotationName>>
     ensures { option_map (command_in (file_given (options_in options.entry))) result
         ≡ check_asked (options_in options.entry) }
 {
-    let from = input_alone(options)?;
+    let from = parse_notation_alone(options)?;
     Some(Command::Check { from })
 }

@@ -1,6 +1,6 @@
 //! What is asked: one case for each command, with what it needs.
 ghost use Rattle.std.specs.Prelude.{◌≡◌, ℕ, List, option_map};
-ghost use Rattle.command_words.specs.Command.{command_in, names_log as names_log_said, plain_command, reads_file as reads_file_said, reads_input as reads_input_said, with_notations};
+ghost use Rattle.command_words.specs.Command.{command_in, has_input, has_other_file, is_about_logs, plain_command, with_notations};
 
 use crate::hand_count::HandCount;
 use crate::notation::{NotationName, PlainNotation};
@@ -104,7 +104,7 @@ impl<N> Command<N> {
 
     /// Whether the command reads another file.
     pub fn reads_file(&self) -> bool
-        ensures { (file : List ℕ) → result ≡ reads_file_said (command_in file self.now) }
+        ensures { (file : List ℕ) → result ≡ has_other_file (command_in file self.now) }
     {
         match self {
             Command::Compare { .. } => true,
@@ -114,7 +114,7 @@ impl<N> Command<N> {
 
     /// Whether the command reads the input.
     pub fn reads_input(&self) -> bool
-        ensures { (file : List ℕ) → result ≡ reads_input_said (command_in file self.now) }
+        ensures { (file : List ℕ) → result ≡ has_input (command_in file self.now) }
     {
         match self {
             Command::Load { .. } => false,
@@ -126,7 +126,7 @@ impl<N> Command<N> {
 impl Command<NotationName> {
     /// Whether one of the notations of the command is that of logs.
     pub fn names_log(&self) -> bool
-        ensures { (file : List ℕ) → result ≡ names_log_said (command_in file self.now) }
+        ensures { (file : List ℕ) → result ≡ is_about_logs (command_in file self.now) }
     {
         match self {
             Command::Check { from }

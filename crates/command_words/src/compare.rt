@@ -2,11 +2,11 @@
 ghost use Rattle.std.specs.Prelude.{◌≡◌, option_map};
 ghost use Rattle.command_words.specs.Command.{command_in};
 ghost use Rattle.command_words.specs.Requests.{file_given, options_in};
-ghost use Rattle.command_words.specs.Compare.{comparison_asked, file_named as file_named_said};
+ghost use Rattle.command_words.specs.Compare.{comparison_asked, file_named};
 
 use crate::command::Command;
-use crate::given_options::{GivenOptions, are_none};
-use crate::notation::{NotationName, notation_named};
+use crate::given_options::{GivenOptions, has_no_options};
+use crate::notation::{NotationName, parse_given_notation};
 
 /// Whether hands are the same as those of another file.
 pub fn command(options: GivenOptions<'_>) -> Option<Command<NotationName>>
@@ -21,20 +21,20 @@ pub fn command(options: GivenOptions<'_>) -> Option<Command<NotationName>>
         ignores_notes: false,
         ..options
     };
-    if !are_none(others) {
+    if !has_no_options(others) {
         return None;
     }
-    let from = notation_named(options.from)?;
-    let other = notation_named(options.other_notation)?;
-    let _file = file_named(options.other_file)?;
+    let from = parse_given_notation(options.from)?;
+    let other = parse_given_notation(options.other_notation)?;
+    let _file = check_file_name(options.other_file)?;
     let notes = !options.ignores_notes;
     Some(Command::Compare { from, other, notes })
 }
 
 // The name of a file, if one is given and is not empty.
-fn file_named(name: Option<&str>) -> Option<&str>
+fn check_file_name(name: Option<&str>) -> Option<&str>
     ensures { option_map (λ s. s.now) result
-        ≡ file_named_said (option_map (λ s. s.now) name.entry) }
+        ≡ file_named (option_map (λ s. s.now) name.entry) }
 {
     match name {
         Some(name) if !name.is_empty() => Some(name),

@@ -5,8 +5,8 @@ ghost use Rattle.command_words.specs.Requests.{file_given, options_in};
 ghost use Rattle.command_words.specs.Convert.{conversion_asked, keep_said};
 
 use crate::command::Command;
-use crate::given_options::{GivenOptions, are_none};
-use crate::notation::{NotationName, notation_named};
+use crate::given_options::{GivenOptions, has_no_options};
+use crate::notation::{NotationName, parse_given_notation};
 use hand_canon::Keep;
 
 /// Converts hands from one notation to another.
@@ -21,11 +21,11 @@ pub fn command(options: GivenOptions<'_>) -> Option<Command<NotationName>>
         drops_notes: false,
         ..options
     };
-    if !are_none(others) {
+    if !has_no_options(others) {
         return None;
     }
-    let from = notation_named(options.from)?;
-    let to = notation_named(options.to)?;
+    let from = parse_given_notation(options.from)?;
+    let to = parse_given_notation(options.to)?;
     let keep = keep_of(options.drops_notes);
     Some(Command::Convert { from, to, keep })
 }

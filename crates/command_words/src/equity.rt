@@ -5,8 +5,8 @@ ghost use Rattle.command_words.specs.Requests.{file_given, options_in};
 ghost use Rattle.command_words.specs.Equity.{equity_asked};
 
 use crate::command::Command;
-use crate::given_options::{GivenOptions, are_none};
-use crate::notation::{NotationName, notation_named};
+use crate::given_options::{GivenOptions, has_no_options};
+use crate::notation::{NotationName, parse_given_notation};
 use crate::numbers::{read_hand, read_street};
 
 /// How often each live hand would win, from a street on.
@@ -21,10 +21,10 @@ pub fn command(options: GivenOptions<'_>) -> Option<Command<NotationName>>
         street: None,
         ..options
     };
-    if !are_none(others) {
+    if !has_no_options(others) {
         return None;
     }
-    let from = notation_named(options.from)?;
+    let from = parse_given_notation(options.from)?;
     let hand = read_hand(options.hand?)?;
     let street = read_street(options.street?)?;
     Some(Command::Equity { from, hand, street })

@@ -5,8 +5,8 @@ ghost use Rattle.command_words.specs.Requests.{file_given, options_in};
 ghost use Rattle.command_words.specs.Game.{game_asked};
 
 use crate::command::Command;
-use crate::given_options::{GivenOptions, are_none};
-use crate::notation::{NotationName, notation_named};
+use crate::given_options::{GivenOptions, has_no_options};
+use crate::notation::{NotationName, parse_given_notation};
 
 /// Makes a game file from hands that have none.
 pub fn command(options: GivenOptions<'_>) -> Option<Command<NotationName>>
@@ -17,9 +17,9 @@ pub fn command(options: GivenOptions<'_>) -> Option<Command<NotationName>>
         from: None,
         ..options
     };
-    if !are_none(others) {
+    if !has_no_options(others) {
         return None;
     }
-    let from = notation_named(options.from)?;
+    let from = parse_given_notation(options.from)?;
     Some(Command::Game { from })
 }

@@ -1,8 +1,8 @@
 //! Reads words as options, each given at most once.
-ghost use Rattle.std.specs.Prelude.{◌≡◌, option_map, map, string_bytes};
+ghost use Rattle.std.specs.Prelude.{◌≡◌, ◌++◌, option_map, map, string_bytes};
 ghost use Rattle.clap.specs.Lexer.{long_of, name_and_value, strip_byte};
 ghost use Rattle.command_words.specs.Requests.{options_in};
-ghost use Rattle.command_words.specs.GivenOptions.{are_none as are_none_said, is_flag as is_flag_said, is_of_other as is_of_other_said, lack_counts as lack_counts_said, lack_flags as lack_flags_said, lack_names as lack_names_said, lack_other as lack_other_said, lack_places as lack_places_said, no_options, options_said, with_flag as with_flag_said, with_new as with_new_said, with_option as with_option_said, with_other as with_other_said, with_place as with_place_said};
+ghost use Rattle.command_words.specs.GivenOptions.{flags, no_option_given, none_given, no_flag_given, made_options, names_flag, no_options, notation_options, options_said, other_options, place_options, valued_options, with_given, with_one_flag, with_one_of};
 
 /// The values of the given options.
 #[derive(Clone, Copy, Debug, PartialEq, Eq)]
@@ -65,16 +65,16 @@ pub fn read_options(words: &[String]) -> Option<GivenOptions<'_>>
     while let Some((word, behind)) = rest.split_first() {
         match long_word(word.as_str())? {
             (name, Some(value)) => {
-                options = with_option(options, name, value)?;
+                options = add_option(options, name, value)?;
                 rest = behind;
             }
-            (name, None) if is_flag(name) => {
-                options = with_flag(options, name)?;
+            (name, None) if takes_no_value(name) => {
+                options = add_flag(options, name)?;
                 rest = behind;
             }
             (name, None) => {
                 let (value, behind) = behind.split_first()?;
-                options = with_option(options, name, value.as_str())?;
+                options = add_option(options, name, value.as_str())?;
                 rest = behind;
             }
         }
@@ -111,34 +111,20 @@ fn split_value(text: &str) -> (&str, Option<&str>)
 }
 
 // The options with one more, if its value does not begin with a hyphen.
-fn with_option<'a>(
-    options: GivenOptions<'a>,
-    name: &str,
-    value: &'a str,
-) -> Option<GivenOptions<'a>>
+fn add_option<'a>(options: GivenOptions<'a>, name: &str, value: &'a str) -> Option<GivenOptions<'a>>
     ensures { option_map options_in result
-        ≡ with_option_said (options_in options.entry) name.now value.now }
+        ≡ with_given (options_in options.entry) name.now value.now }
 {
     if value.starts_with('-') {
         return None;
     }
-    if is_of_other(name) {
-        return with_other(options, name, value);
-    }
-    with_new(options, name, value)
-}
-
-// Whether the option is about the other file.
-fn is_of_other(name: &str) -> bool
-    ensures { result ≡ is_of_other_said name.now }
-{
-    name == "with" || name == "as"
+    add_new(options, name, value)
 }
 
 // The options with one more, if it is not given yet.
-fn with_new<'a>(options: GivenOptions<'a>, name: &str, value: &'a str) -> Option<GivenOptions<'a>>
+fn add_new<'a>(options: GivenOptions<'a>, name: &str, value: &'a str) -> Option<GivenOptions<'a>>
     ensures { option_map options_in result
-        ≡ with_new_said (options_in options.entry) name.now value.now }
+        ≡ with_one_of valued_options (options_in options.entry) name.now value.now }
 {
     let given = Some(value);
     match name {
@@ -162,50 +148,52 @@ fn with_new<'a>(options: GivenOptions<'a>, name: &str, value: &'a str) -> Option
             hands: given,
             ..options
         }),
-        _ => with_place(options, name, value),
+        _ => add_place(options, name, value),
     }
 }
 
-// The options with one more about a seat or a place in a hand, if it is not given yet.
-fn with_place<'a>(options: GivenOptions<'a>, name: &str, value: &'a str) -> Option<GivenOptions<'a>>
+// The options with one more about a seat, a place in a hand or the other file,
+// if it is not given yet.
+fn add_place<'a>(options: GivenOptions<'a>, name: &str, value: &'a str) -> Option<GivenOptions<'a>>
     ensures { option_map options_in result
-        ≡ with_place_said (options_in options.entry) name.now value.now }
+        ≡ with_one_of (place_options ++ other_options)
+        (options_in options.entry) name.now value.now }
 {
-    let value = Some(value);
+    let given = Some(value);
     match name {
         "seat" if options.seat.is_none() => Some(GivenOptions {
-            seat: value,
+            seat: given,
             ..options
         }),
         "hand" if options.hand.is_none() => Some(GivenOptions {
-            hand: value,
+            hand: given,
             ..options
         }),
         "after" if options.after.is_none() => Some(GivenOptions {
-            after: value,
+            after: given,
             ..options
         }),
         "street" if options.street.is_none() => Some(GivenOptions {
-            street: value,
+            street: given,
             ..options
         }),
-        _ => None,
+        _ => add_other(options, name, value),
     }
 }
 
 // The options with one more about the other file, if it is not given yet.
-fn with_other<'a>(options: GivenOptions<'a>, name: &str, value: &'a str) -> Option<GivenOptions<'a>>
+fn add_other<'a>(options: GivenOptions<'a>, name: &str, value: &'a str) -> Option<GivenOptions<'a>>
     ensures { option_map options_in result
-        ≡ with_other_said (options_in options.entry) name.now value.now }
+        ≡ with_one_of other_options (options_in options.entry) name.now value.now }
 {
-    let value = Some(value);
+    let given = Some(value);
     match name {
         "with" if options.other_file.is_none() => Some(GivenOptions {
-            other_file: value,
+            other_file: given,
             ..options
         }),
         "as" if options.other_notation.is_none() => Some(GivenOptions {
-            other_notation: value,
+            other_notation: given,
             ..options
         }),
         _ => None,
@@ -213,15 +201,16 @@ fn with_other<'a>(options: GivenOptions<'a>, name: &str, value: &'a str) -> Opti
 }
 
 // Whether the option is a flag, which has no value.
-fn is_flag(name: &str) -> bool
-    ensures { result ≡ is_flag_said name.now }
+fn takes_no_value(name: &str) -> bool
+    ensures { result ≡ names_flag name.now }
 {
     name == "drop-notes" || name == "no-notes" || name == "lines" || name == "each"
 }
 
 // The options with the flag of this name, if it is not given yet.
-fn with_flag<'a>(options: GivenOptions<'a>, name: &str) -> Option<GivenOptions<'a>>
-    ensures { option_map options_in result ≡ with_flag_said (options_in options.entry) name.now }
+fn add_flag<'a>(options: GivenOptions<'a>, name: &str) -> Option<GivenOptions<'a>>
+    ensures { option_map options_in result
+        ≡ with_one_flag flags (options_in options.entry) name.now }
 {
     match name {
         "drop-notes" if !options.drops_notes => Some(GivenOptions {
@@ -245,33 +234,33 @@ fn with_flag<'a>(options: GivenOptions<'a>, name: &str) -> Option<GivenOptions<'
 }
 
 /// Whether no option is given.
-pub fn are_none(options: GivenOptions<'_>) -> bool
-    ensures { result ≡ are_none_said (options_in options.entry) }
+pub fn has_no_options(options: GivenOptions<'_>) -> bool
+    ensures { result ≡ no_option_given (options_in options.entry) }
 {
-    lack_names(options)
-        && lack_counts(options)
-        && lack_places(options)
-        && lack_other(options)
-        && lack_flags(options)
+    has_no_names(options)
+        && has_no_counts(options)
+        && has_no_places(options)
+        && has_no_other(options)
+        && has_no_flags(options)
 }
 
 // Whether no notation and no game is given.
-fn lack_names(options: GivenOptions<'_>) -> bool
-    ensures { result ≡ lack_names_said (options_in options.entry) }
+fn has_no_names(options: GivenOptions<'_>) -> bool
+    ensures { result ≡ none_given notation_options (options_in options.entry) }
 {
     options.from.is_none() && options.to.is_none() && options.game.is_none()
 }
 
 // Whether no option about made hands is given.
-fn lack_counts(options: GivenOptions<'_>) -> bool
-    ensures { result ≡ lack_counts_said (options_in options.entry) }
+fn has_no_counts(options: GivenOptions<'_>) -> bool
+    ensures { result ≡ none_given made_options (options_in options.entry) }
 {
     options.seed.is_none() && options.hands.is_none()
 }
 
 // Whether no seat, hand or place in a hand is given.
-fn lack_places(options: GivenOptions<'_>) -> bool
-    ensures { result ≡ lack_places_said (options_in options.entry) }
+fn has_no_places(options: GivenOptions<'_>) -> bool
+    ensures { result ≡ none_given place_options (options_in options.entry) }
 {
     options.seat.is_none()
         && options.hand.is_none()
@@ -280,15 +269,15 @@ fn lack_places(options: GivenOptions<'_>) -> bool
 }
 
 // Whether no option about the other file is given.
-fn lack_other(options: GivenOptions<'_>) -> bool
-    ensures { result ≡ lack_other_said (options_in options.entry) }
+fn has_no_other(options: GivenOptions<'_>) -> bool
+    ensures { result ≡ none_given other_options (options_in options.entry) }
 {
     options.other_file.is_none() && options.other_notation.is_none()
 }
 
 // Whether no flag is given.
-fn lack_flags(options: GivenOptions<'_>) -> bool
-    ensures { result ≡ lack_flags_said (options_in options.entry) }
+fn has_no_flags(options: GivenOptions<'_>) -> bool
+    ensures { result ≡ no_flag_given (options_in options.entry) }
 {
     !options.drops_notes && !options.ignores_notes && !options.shows_lines && !options.asks_each
 }

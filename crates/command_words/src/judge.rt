@@ -2,11 +2,11 @@
 ghost use Rattle.std.specs.Prelude.{◌≡◌, ℕ, List, option_map};
 ghost use Rattle.command_words.specs.Command.{command_in};
 ghost use Rattle.command_words.specs.Requests.{file_given, options_in};
-ghost use Rattle.command_words.specs.Judge.{judge_asked, verdicts_of as verdicts_of_said};
+ghost use Rattle.command_words.specs.Judge.{judge_asked, verdicts_of};
 
 use crate::command::Command;
-use crate::given_options::{GivenOptions, are_none};
-use crate::notation::{NotationName, PlainNotation, notation_named};
+use crate::given_options::{GivenOptions, has_no_options};
+use crate::notation::{NotationName, PlainNotation, parse_given_notation};
 
 /// The verdict on each hand; takes the notation, the game, and whether lines are asked for.
 pub fn command(options: GivenOptions<'_>) -> Option<Command<NotationName>>
@@ -19,17 +19,17 @@ pub fn command(options: GivenOptions<'_>) -> Option<Command<NotationName>>
         shows_lines: false,
         ..options
     };
-    if !are_none(others) {
+    if !has_no_options(others) {
         return None;
     }
-    let from = notation_named(options.from)?;
-    verdicts_of(options.shows_lines, from)
+    let from = parse_given_notation(options.from)?;
+    ask_for_verdicts(options.shows_lines, from)
 }
 
 // The verdict on each hand of a notation. A line is given only if its number says where a hand can
 // be cut out, so not for tables of TOML.
-fn verdicts_of(lines: bool, from: NotationName) -> Option<Command<NotationName>>
-    ensures { (file : List ℕ) → option_map (command_in file) result ≡ verdicts_of_said lines from }
+fn ask_for_verdicts(lines: bool, from: NotationName) -> Option<Command<NotationName>>
+    ensures { (file : List ℕ) → option_map (command_in file) result ≡ verdicts_of lines from }
 {
     match from {
         NotationName::Plain(PlainNotation::Phh) if lines => None,

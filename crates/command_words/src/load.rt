@@ -5,7 +5,7 @@ ghost use Rattle.command_words.specs.Requests.{file_given, options_in};
 ghost use Rattle.command_words.specs.Load.{load_asked};
 
 use crate::command::Command;
-use crate::given_options::{GivenOptions, are_none};
+use crate::given_options::{GivenOptions, has_no_options};
 use crate::notation::NotationName;
 use crate::numbers::{read_count, read_seed};
 
@@ -19,7 +19,7 @@ pub fn command(options: GivenOptions<'_>) -> Option<Command<NotationName>>
         hands: None,
         ..options
     };
-    if !are_none(others) {
+    if !has_no_options(others) {
         return None;
     }
     let seed = read_seed(options.seed?)?;

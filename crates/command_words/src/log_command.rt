@@ -1,6 +1,6 @@
 //! A command about logs, with its game file.
 ghost use Rattle.std.specs.Prelude.{◌≡◌, true};
-ghost use Rattle.command_words.specs.Command.{command_in, names_log};
+ghost use Rattle.command_words.specs.Command.{command_in, is_about_logs};
 
 use crate::command::Command;
 use crate::notation::NotationName;
@@ -12,5 +12,5 @@ pub struct LogCommand<'a> {
     pub command: Command<NotationName>,
     /// The name of the other file; empty if the command reads none.
     pub file: &'a str,
-    pub ghost of_log: { names_log (command_in file.now command) ≡ true },
+    pub ghost of_log: { is_about_logs (command_in file.now command) ≡ true },
 }

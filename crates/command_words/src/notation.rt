@@ -1,7 +1,7 @@
 //! The notations and their names on the command line.
 ghost use Rattle.std.specs.Prelude.{◌≡◌, option_map};
-ghost use Rattle.command_words.specs.Command.{is_log as is_log_said, plain_of};
-ghost use Rattle.command_words.specs.Notations.{notation_named as notation_named_said, notation_of_name as notation_of_name_said};
+ghost use Rattle.command_words.specs.Command.{is_of_logs, plain_of};
+ghost use Rattle.command_words.specs.Notations.{notation_named, notation_of_name};
 
 /// A notation that needs no game file.
 #[derive(Clone, Copy, Debug, PartialEq, Eq)]
@@ -26,7 +26,7 @@ pub enum NotationName {
 impl NotationName {
     /// Whether it is the notation of logs.
     pub fn is_log(&self) -> bool
-        ensures { result ≡ is_log_said self.now }
+        ensures { result ≡ is_of_logs self.now }
     {
         match self {
             NotationName::Plain(_) => false,
@@ -46,15 +46,15 @@ impl NotationName {
 }
 
 /// The notation with this name, if a name is given and known.
-pub fn notation_named(name: Option<&str>) -> Option<NotationName>
-    ensures { result ≡ notation_named_said (option_map (λ s. s.now) name.entry) }
+pub fn parse_given_notation(name: Option<&str>) -> Option<NotationName>
+    ensures { result ≡ notation_named (option_map (λ s. s.now) name.entry) }
 {
-    notation_of_name(name?)
+    parse_notation(name?)
 }
 
 // The notation with this name.
-fn notation_of_name(name: &str) -> Option<NotationName>
-    ensures { result ≡ notation_of_name_said name.now }
+fn parse_notation(name: &str) -> Option<NotationName>
+    ensures { result ≡ notation_of_name name.now }
 {
     match name {
         "phh" => Some(NotationName::Plain(PlainNotation::Phh)),

@@ -1,10 +1,10 @@
 //! Reads the number of an option: a few decimal digits, in the option's range.
 ghost use Rattle.std.specs.Prelude.{◌≡◌, ◌≤◌, IfSome, option_map};
-ghost use Rattle.command_words.specs.Numbers.{events_said, hand_said, hands_said, no_less as no_less_said, number_said, seat_said, seed_said, street_said};
+ghost use Rattle.command_words.specs.Numbers.{events_said, hand_said, hands_said, no_less, number_said, seat_said, seed_said, street_said};
 
 use crate::hand_count::HandCount;
 use chip_ledger::Seat;
-use first_fault::{MOST_HANDS, are_digits, read_digits};
+use first_fault::{MOST_HANDS, is_all_digits, read_digits};
 
 /// The seed that a text says.
 pub fn read_seed(text: &str) -> Option<u64>
@@ -63,15 +63,15 @@ fn read_number(text: &str, digits: usize, least: u64, most: u64) -> Option<u64>
     ensures bound { IfSome result (λ number. number ≤ most) }
 {
     let text = text.as_bytes();
-    if !are_digits(text) || text.len() > digits {
+    if !is_all_digits(text) || text.len() > digits {
         return None;
     }
-    no_less(least, read_digits(text, most)?)
+    check_least(least, read_digits(text, most)?)
 }
 
 // The number, if it is at least `least`.
-fn no_less(least: u64, number: u64) -> Option<u64>
-    ensures { result ≡ no_less_said least number }
+fn check_least(least: u64, number: u64) -> Option<u64>
+    ensures { result ≡ no_less least number }
 {
     if least <= number { Some(number) } else { None }
 }

@@ -5,8 +5,8 @@ ghost use Rattle.command_words.specs.Requests.{file_given, options_in};
 ghost use Rattle.command_words.specs.Options.{options_asked, point_asked, points_asked};
 
 use crate::command::{Command, EachQuestion};
-use crate::given_options::{GivenOptions, are_none};
-use crate::notation::{NotationName, notation_named};
+use crate::given_options::{GivenOptions, has_no_options};
+use crate::notation::{NotationName, parse_given_notation};
 use crate::numbers::{read_events, read_hand};
 
 /// The legal moves at one point of a hand, or at every point.
@@ -22,16 +22,16 @@ pub fn command(options: GivenOptions<'_>) -> Option<Command<NotationName>>
         asks_each: false,
         ..options
     };
-    if !are_none(others) {
+    if !has_no_options(others) {
         return None;
     }
-    let from = notation_named(options.from)?;
+    let from = parse_given_notation(options.from)?;
     let hand = read_hand(options.hand?)?;
-    points(options.asks_each, options.after, from, hand)
+    ask_for_points(options.asks_each, options.after, from, hand)
 }
 
 // The legal moves of a hand after the number of events that is given, or at every point.
-fn points(
+fn ask_for_points(
     each: bool,
     after: Option<&str>,
     from: NotationName,
@@ -47,13 +47,13 @@ fn points(
         }
         Some(after) => {
             let events = read_events(after)?;
-            Some(point(each, from, hand, events))
+            Some(ask_for_point(each, from, hand, events))
         }
     }
 }
 
 // The legal moves after this number of events of a hand.
-fn point(each: bool, from: NotationName, hand: u32, events: u32) -> Command<NotationName>
+fn ask_for_point(each: bool, from: NotationName, hand: u32, events: u32) -> Command<NotationName>
     ensures { (file : List ℕ) → command_in file result ≡ point_asked each from hand events }
 {
     if each {

@@ -2,11 +2,11 @@
 ghost use Rattle.std.specs.Prelude.{◌≡◌, ℕ, List, option_map};
 ghost use Rattle.command_words.specs.Command.{command_in};
 ghost use Rattle.command_words.specs.Requests.{file_given, options_in};
-ghost use Rattle.command_words.specs.Replay.{replay_asked, replay_of as replay_of_said};
+ghost use Rattle.command_words.specs.Replay.{replay_asked, replay_of};
 
 use crate::command::{Command, EachQuestion};
-use crate::given_options::{GivenOptions, are_none};
-use crate::notation::{NotationName, notation_named};
+use crate::given_options::{GivenOptions, has_no_options};
+use crate::notation::{NotationName, parse_given_notation};
 
 /// What `replay` asks for with these options, which are the notation, the game, and whether each
 /// hand is answered by itself.
@@ -20,16 +20,16 @@ pub fn command(options: GivenOptions<'_>) -> Option<Command<NotationName>>
         asks_each: false,
         ..options
     };
-    if !are_none(others) {
+    if !has_no_options(others) {
         return None;
     }
-    let from = notation_named(options.from)?;
-    Some(replay_of(options.asks_each, from))
+    let from = parse_given_notation(options.from)?;
+    Some(ask_for_replay(options.asks_each, from))
 }
 
 // All hands step by step, whether or not others are legal if each is asked for by itself.
-fn replay_of(each: bool, from: NotationName) -> Command<NotationName>
-    ensures { (file : List ℕ) → command_in file result ≡ replay_of_said each from }
+fn ask_for_replay(each: bool, from: NotationName) -> Command<NotationName>
+    ensures { (file : List ℕ) → command_in file result ≡ replay_of each from }
 {
     if each {
         let question = EachQuestion::Replay;

@@ -2,12 +2,12 @@
 ghost use Rattle.std.specs.Prelude.{◌≡◌, [], option_map, unwrap_or};
 ghost use Rattle.command_words.specs.Command.{command_in};
 ghost use Rattle.command_words.specs.Requests.{options_in, request_in};
-ghost use Rattle.command_words.specs.Request.{input_alone as input_alone_said, under_game as under_game_said};
+ghost use Rattle.command_words.specs.Request.{input_alone, under_game};
 
 use crate::command::Command;
-use crate::given_options::{GivenOptions, are_none};
+use crate::given_options::{GivenOptions, has_no_options};
 use crate::log_command::LogCommand;
-use crate::notation::{NotationName, PlainNotation, notation_named};
+use crate::notation::{NotationName, PlainNotation, parse_given_notation};
 
 /// What the program is asked for. A file is its name.
 #[derive(Clone, Copy)]
@@ -25,13 +25,13 @@ pub enum Request<'a> {
 /// The request for a command, with the name of the other file if one is given. A game file is
 /// given, and its name is not empty, if and only if one of the notations is that of logs; otherwise
 /// there is no request.
-pub fn under_game<'a>(
+pub fn new_request<'a>(
     game: Option<&'a str>,
     file: Option<&'a str>,
     command: Command<NotationName>,
 ) -> Option<Request<'a>>
     ensures { option_map request_in result
-        ≡ under_game_said (option_map (λ s. s.now) game.entry)
+        ≡ under_game (option_map (λ s. s.now) game.entry)
         (command_in (unwrap_or (option_map (λ s. s.now) file.entry) []) command) }
 {
     let file = file.unwrap_or("");
@@ -52,16 +52,16 @@ pub fn under_game<'a>(
 }
 
 /// The notation of the input, if no option is given but it and the game file.
-pub fn input_alone(options: GivenOptions<'_>) -> Option<NotationName>
-    ensures { result ≡ input_alone_said (options_in options.entry) }
+pub fn parse_notation_alone(options: GivenOptions<'_>) -> Option<NotationName>
+    ensures { result ≡ input_alone (options_in options.entry) }
 {
     let others = GivenOptions {
         from: None,
         game: None,
         ..options
     };
-    if !are_none(others) {
+    if !has_no_options(others) {
         return None;
     }
-    notation_named(options.from)
+    parse_given_notation(options.from)
 }

@@ -2,11 +2,11 @@
 ghost use Rattle.std.specs.Prelude.{◌≡◌, ℕ, List, option_map};
 ghost use Rattle.command_words.specs.Command.{command_in};
 ghost use Rattle.command_words.specs.Requests.{file_given, options_in};
-ghost use Rattle.command_words.specs.Views.{views_asked, views_of as views_of_said};
+ghost use Rattle.command_words.specs.Views.{views_asked, views_of};
 
 use crate::command::Command;
-use crate::given_options::{GivenOptions, are_none};
-use crate::notation::{NotationName, notation_named};
+use crate::given_options::{GivenOptions, has_no_options};
+use crate::notation::{NotationName, parse_given_notation};
 use crate::numbers::read_seat;
 use chip_ledger::Seat;
 
@@ -21,17 +21,17 @@ pub fn command(options: GivenOptions<'_>) -> Option<Command<NotationName>>
         seat: None,
         ..options
     };
-    if !are_none(others) {
+    if !has_no_options(others) {
         return None;
     }
-    let from = notation_named(options.from)?;
+    let from = parse_given_notation(options.from)?;
     let seat = read_seat(options.seat?)?;
-    views_of(from, seat)
+    ask_for_views(from, seat)
 }
 
 // What a seat saw of the hands of logs.
-fn views_of(from: NotationName, seat: Seat) -> Option<Command<NotationName>>
-    ensures { (file : List ℕ) → option_map (command_in file) result ≡ views_of_said from seat }
+fn ask_for_views(from: NotationName, seat: Seat) -> Option<Command<NotationName>>
+    ensures { (file : List ℕ) → option_map (command_in file) result ≡ views_of from seat }
 {
     match from {
         NotationName::Acpc => Some(Command::Views { from, seat }),

@@ -7,7 +7,7 @@ ghost use Rattle.command_words.specs.Words.{command_by, request_by};
 use crate::command::Command;
 use crate::given_options::GivenOptions;
 use crate::notation::NotationName;
-use crate::request::{Request, under_game};
+use crate::request::{Request, new_request};
 use crate::{
     check, compare, convert, equity, game, judge, load, options, replay, report, session, views,
 };
@@ -17,7 +17,7 @@ pub fn request_of<'a>(word: &str, given: GivenOptions<'a>) -> Option<Request<'a>
     ensures { option_map request_in result ≡ request_by word.now (options_in given.entry) }
 {
     let command = command_of(word, given)?;
-    under_game(given.game, given.other_file, command)
+    new_request(given.game, given.other_file, command)
 }
 
 // The command of this word with these options, without the game file.

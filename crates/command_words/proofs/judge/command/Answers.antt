@@ -4,4 +4,4 @@ use Rattle.command_words.specs.Requests.{file_given, options_in}
 use Rattle.command_words.proofs.judge.command.Goals as goal
 
 pub returns : goal.returns
-returns c = c.verdicts_of.ensures (file_given (options_in c.args.options)) ∙ search rules
+returns c = c.ask_for_verdicts.ensures (file_given (options_in c.args.options)) ∙ search rules
