@@ -22,7 +22,7 @@ use Rattle.acpc_reading.specs.RecordView.{IsOfGame, record_said, rules_of}
 use Rattle.play_event.specs.TraceCore.{TraceCore}
 use Rattle.canon_laws.proofs.MoveCounts.{move_count}
 use Rattle.card_set.proofs.Reversed.{count_reversed}
-use Rattle.play_event.specs.PlayedScript.{is_move}
+use Rattle.play_event.specs.PlayedScript.{is_move_event}
 use Rattle.play_event.specs.Past.{moves_of}
 use Rattle.play_event.specs.Scripts.{past_at_end}
 use Rattle.first_fault.specs.declared.limits.TheConstants.{MOST_FILE_MOVES}
@@ -74,7 +74,7 @@ same_count play sound =
     ap (λ (core : TraceCore). length core.moves) sound.trace.core
     ∙ as_many setup (moves_of (past_at_end setup script))
     ∙ move_count setup (reverse script)
-    ∙ count_reversed is_move script
+    ∙ count_reversed is_move_event script
 
 -- for all plays together, as many moves are written as were played
 all_counted : (plays : List Play) → AllByRecursion IsSound plays

@@ -36,8 +36,8 @@ HaveFault format bytes fault = (meaning_of format).HaveFault bytes fault
 
 -- the numbers of the lines on which the hands in the bytes begin, counted from 1; none are given
 -- for the Poker Hand History format
-abbrev pub first_lines : Format → List ℕ → List ℕ
-first_lines format bytes = (meaning_of format).first_lines bytes
+abbrev pub start_lines : Format → List ℕ → List ℕ
+start_lines format bytes = (meaning_of format).first_lines bytes
 
 -- bytes spell plays in a notation
 abbrev pub SpellPlays : Format → List Play → List ℕ → Type 0

@@ -7,7 +7,7 @@ ghost use Rattle.convert_core.specs.Acpc as in_acpc;
 use crate::format_fault::FormatFault;
 use crate::notation::Notation;
 use acpc_format::Game;
-use acpc_reading::hand_lines;
+use acpc_reading::find_hand_lines;
 use card_set::Memory;
 use hand_canon::{Keep, Play, Records, SoundPlay, Unspelled, WriteRefusal};
 use play_event::{Reopen, Rules};
@@ -46,7 +46,7 @@ impl Notation for Acpc {
     }
 
     fn first_lines(&self, alloc: Global, bytes: &[u8]) -> Result<Vec<u64>, Memory> {
-        hand_lines(alloc, bytes)
+        find_hand_lines(alloc, bytes)
     }
 
     fn spells(&self, play: &Play, keep: Keep) -> Option<Unspelled> {
@@ -66,9 +66,9 @@ impl Notation for Acpc {
         alloc: Global,
         out: &mut Vec<u8>,
         place: usize,
-        play: &Play,
+        play: &SoundPlay<'_>,
     ) -> Result<(), Memory> {
-        acpc_format::push_line(alloc, out, self.game.no_limit, place, &SoundPlay::new(play))?;
+        acpc_format::push_line(alloc, out, self.game.no_limit, place, play)?;
         Ok(())
     }
 }

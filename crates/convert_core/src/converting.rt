@@ -40,10 +40,8 @@ pub fn convert<N: Notation, M: Notation>(
 {
     if to.has_lines() {
         // A target with lines needs one play at a time: each is a few thousand bytes.
-        return match read_records(alloc, from, bytes) {
-            Ok(records) => write_records(alloc, to, keep, records),
-            Err(fault) => Err(fault),
-        };
+        let records = read_records(alloc, from, bytes)?;
+        return write_records(alloc, to, keep, records);
     }
     let plays = plays(alloc, from, bytes)?;
     match to.write(alloc, &plays, keep) {

@@ -9,7 +9,7 @@ use crate::ohh::Ohh;
 use crate::phh::Phh;
 use acpc_format::Game;
 use card_set::Memory;
-use hand_canon::{Keep, Play, Records, Unspelled, WriteRefusal};
+use hand_canon::{Keep, Play, Records, SoundPlay, Unspelled, WriteRefusal};
 use ohh_format::Dialect;
 use play_event::Rules;
 use std::alloc::Global;
@@ -83,7 +83,7 @@ impl Notation for Format {
         alloc: Global,
         out: &mut Vec<u8>,
         place: usize,
-        play: &Play,
+        play: &SoundPlay<'_>,
     ) -> Result<(), Memory> {
         match self {
             Format::Phh => Phh.push_line(alloc, out, place, play),

@@ -12,7 +12,7 @@ use crate::sound_records::SoundRecords;
 use crate::taking::judge_all;
 use crate::visitor::VerdictVisitor;
 use card_set::Memory;
-use hand_canon::{Keep, WriteRefusal};
+use hand_canon::{Keep, SoundPlay, WriteRefusal};
 use std::alloc::Global;
 
 // The lines of the hands so far.
@@ -38,11 +38,11 @@ impl<'a, N: Notation> VerdictVisitor for Writer<'a, N> {
         false
     }
 
-    fn keeps(&self) -> bool {
+    fn retains_plays(&self) -> bool {
         false
     }
 
-    fn take(
+    fn legal(
         &mut self,
         alloc: Global,
         place: HandIndex,
@@ -53,7 +53,10 @@ impl<'a, N: Notation> VerdictVisitor for Writer<'a, N> {
         }
         let play = judged.play();
         match self.to.spells(play, self.keep) {
-            None => self.to.push_line(alloc, &mut self.out, place.index, play)?,
+            None => {
+                let play = SoundPlay::new(play);
+                self.to.push_line(alloc, &mut self.out, place.index, &play)?;
+            }
             Some(fact) => {
                 let hand = place.index as u32 + 1;
                 self.refusal = Some(WriteRefusal::Unspelled { hand, fact });
@@ -62,7 +65,7 @@ impl<'a, N: Notation> VerdictVisitor for Writer<'a, N> {
         Ok(())
     }
 
-    fn pass(&mut self, _: Global, _: HandIndex, _: &Refusal) -> Result<(), Memory> {
+    fn refused(&mut self, _: Global, _: HandIndex, _: &Refusal) -> Result<(), Memory> {
         Ok(())
     }
 }

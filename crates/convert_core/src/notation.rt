@@ -12,7 +12,7 @@ ghost use Rattle.convert_core.specs.Meaning.{Meaning};
 
 use crate::format_fault::FormatFault;
 use card_set::Memory;
-use hand_canon::{Keep, Play, Records, Unspelled, WriteRefusal};
+use hand_canon::{Keep, Play, Records, SoundPlay, Unspelled, WriteRefusal};
 use play_event::Rules;
 use std::alloc::Global;
 
@@ -77,9 +77,8 @@ pub trait Notation {
         alloc: Global,
         out: &mut Vec<u8>,
         place: usize,
-        play: &Play,
+        play: &SoundPlay<'_>,
     ) -> Result<(), Memory>
-        requires { IsSound play.now }
         ensures line { (meaning self.now).is_lined ≡ true → (before : List AnyPlay)
             → length before ≡ place → (meaning self.now).Spell before out.old.items
             → OnOk result ((meaning self.now).Spell (before ++ play.now ∷ []) out.new.items) }

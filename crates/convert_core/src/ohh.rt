@@ -9,7 +9,7 @@ use crate::notation::Notation;
 use card_set::Memory;
 use hand_canon::{Keep, Play, Records, SoundPlay, Unspelled, WriteRefusal};
 use ohh_format::Dialect;
-use ohh_reading::block_lines;
+use ohh_reading::find_block_lines;
 use play_event::{Reopen, Rules};
 use std::alloc::Global;
 
@@ -46,7 +46,7 @@ impl Notation for Ohh {
     }
 
     fn first_lines(&self, alloc: Global, bytes: &[u8]) -> Result<Vec<u64>, Memory> {
-        block_lines(alloc, bytes)
+        find_block_lines(alloc, bytes)
     }
 
     fn spells(&self, play: &Play, keep: Keep) -> Option<Unspelled> {
@@ -66,8 +66,8 @@ impl Notation for Ohh {
         alloc: Global,
         out: &mut Vec<u8>,
         place: usize,
-        play: &Play,
+        play: &SoundPlay<'_>,
     ) -> Result<(), Memory> {
-        ohh_format::push_line(alloc, out, self.dialect, place, &SoundPlay::new(play))
+        ohh_format::push_line(alloc, out, self.dialect, place, play)
     }
 }

@@ -7,7 +7,7 @@ ghost use Rattle.convert_core.specs.PhhLaws as laws;
 use crate::format_fault::FormatFault;
 use crate::notation::Notation;
 use card_set::Memory;
-use hand_canon::{Keep, Play, Records, Unspelled, WriteRefusal};
+use hand_canon::{Keep, Play, Records, SoundPlay, Unspelled, WriteRefusal};
 use play_event::{Reopen, Rules};
 use std::alloc::Global;
 
@@ -58,7 +58,13 @@ impl Notation for Phh {
         false
     }
 
-    fn push_line(&self, _: Global, _: &mut Vec<u8>, _: usize, _: &Play) -> Result<(), Memory> {
+    fn push_line(
+        &self,
+        _: Global,
+        _: &mut Vec<u8>,
+        _: usize,
+        _: &SoundPlay<'_>,
+    ) -> Result<(), Memory> {
         // A file of several hands numbers them, and a file of one hand does not: PHH has no line
         // per hand.
         Ok(())

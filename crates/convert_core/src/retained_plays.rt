@@ -27,15 +27,15 @@ impl VerdictVisitor for Keeper {
         false
     }
 
-    fn keeps(&self) -> bool {
+    fn retains_plays(&self) -> bool {
         true
     }
 
-    fn take(&mut self, _: Global, _: HandIndex, _: &JudgedPlay<'_>) -> Result<(), Memory> {
+    fn legal(&mut self, _: Global, _: HandIndex, _: &JudgedPlay<'_>) -> Result<(), Memory> {
         Ok(())
     }
 
-    fn pass(&mut self, _: Global, _: HandIndex, _: &Refusal) -> Result<(), Memory> {
+    fn refused(&mut self, _: Global, _: HandIndex, _: &Refusal) -> Result<(), Memory> {
         Ok(())
     }
 }
@@ -52,8 +52,5 @@ pub fn plays_of(alloc: Global, records: SoundRecords) -> Result<Vec<Play>, Plays
     ensures sound { IfOk result (λ plays. All IsSound plays.items) }
     ensures refused { IfErr result (IsPlaysFaultOf records) }
 {
-    match judge_all(alloc, &mut Keeper, records) {
-        Ok(plays) => Ok(plays),
-        Err(fault) => Err(fault),
-    }
+    judge_all(alloc, &mut Keeper, records)
 }

@@ -45,10 +45,7 @@ pub fn judge_all<T: VerdictVisitor>(
     let mut index = 0;
     for hand in hands {
         let place = HandIndex { index };
-        match take_hand(alloc, visitor, &mut kept, place, hand) {
-            Ok(()) => {}
-            Err(fault) => return Err(fault),
-        }
+        take_hand(alloc, visitor, &mut kept, place, hand)?;
         index += 1;
     }
     Ok(kept)
@@ -59,7 +56,7 @@ fn room<T: VerdictVisitor>(visitor: &T, hands: usize) -> usize
     requires { hands ≤ MOST_HANDS }
     ensures { result ≤ MOST_ROOM }
 {
-    if visitor.keeps() { hands } else { 1 }
+    if visitor.retains_plays() { hands } else { 1 }
 }
 
 // Frees the previous play unless plays are retained: each is a few thousand bytes.
@@ -67,7 +64,7 @@ fn drop_taken<T: VerdictVisitor>(visitor: &T, kept: &mut Vec<Play>)
     ensures stay { T.KEEPS ≡ true → kept.new.items ≡ kept.old.items }
     ensures gone { T.KEEPS ≡ false → kept.new.items ≡ [] }
 {
-    if !visitor.keeps() {
+    if !visitor.retains_plays() {
         kept.clear();
     }
 }
@@ -94,7 +91,7 @@ fn take_hand<T: VerdictVisitor>(
     match replay_and_check(alloc, kept, place, hand) {
         Ok(()) => {
             let play = JudgedPlay::new(&kept[behind]);
-            visitor.take(alloc, place, &play)?;
+            visitor.legal(alloc, place, &play)?;
             Ok(())
         }
         Err(PlaysFault::Refused { hand: number, why }) => {
@@ -125,6 +122,6 @@ fn pass_hand<T: VerdictVisitor>(
     if !visitor.continues() {
         return Err(PlaysFault::Refused { hand: number, why });
     }
-    visitor.pass(alloc, place, &why)?;
+    visitor.refused(alloc, place, &why)?;
     Ok(())
 }

@@ -27,7 +27,7 @@ pub trait VerdictVisitor {
         ensures { result ≡ CONTINUES };
 
     /// Whether the plays are to be retained.
-    fn keeps(&self) -> bool
+    fn retains_plays(&self) -> bool
         ensures { result ≡ KEEPS };
 
     /// Visits a legal hand at its place in the file, from 0.
@@ -35,7 +35,12 @@ pub trait VerdictVisitor {
     /// # Errors
     ///
     /// Out of memory.
-    fn take(&mut self, alloc: Global, place: HandIndex, play: &JudgedPlay<'_>) -> Result<(), Memory>
+    fn legal(
+        &mut self,
+        alloc: Global,
+        place: HandIndex,
+        play: &JudgedPlay<'_>,
+    ) -> Result<(), Memory>
         requires { (start : Self) × HasTaken (Took start self.old) place.index }
         ensures { (start : Self) (before : List Verdict) → length before ≡ place.index
             → AreLegalUnless CONTINUES before → Took start self.old before
@@ -47,7 +52,7 @@ pub trait VerdictVisitor {
     /// # Errors
     ///
     /// Out of memory.
-    fn pass(&mut self, alloc: Global, place: HandIndex, why: &Refusal) -> Result<(), Memory>
+    fn refused(&mut self, alloc: Global, place: HandIndex, why: &Refusal) -> Result<(), Memory>
         requires { (start : Self) × HasTaken (Took start self.old) place.index }
         ensures { (start : Self) (before : List Verdict) (hand : AnyRecord) → CONTINUES ≡ true
             → length before ≡ place.index → IsRefusedFor hand why.now → Took start self.old before

@@ -1,5 +1,6 @@
 -- One hand after another is visited; at the end all are, or the first refused one is reported.
 use Rattle.std.proofs.Common.{◌≡◌, ◌≤◌, List, ◌∷◌, length, ap, subst, sym, ◌∙◌, arith}
+use Rattle.std.proofs.lemmas.Result.{err_from_is_err_and}
 use Rattle.std.proofs.lemmas.List.{nil_from_length}
 use Rattle.std.proofs.lemmas.List.Elements.{All-rest}
 use Rattle.first_fault.specs.declared.limits.TheConstants.{MOST_HANDS}
@@ -23,12 +24,13 @@ invariant_of-place g c =
           (subst (λ (hands : List Record). length hands ≤ MOST_HANDS) c.into_vec-hands.ensures.same c.into_vec-hands.ensures.few);
     }
 
-pub returns-in-Err-clause-refused : goal.returns-in-Err-clause-refused
-returns-in-Err-clause-refused g c =
+pub returns-in_err-take_hand-clause-refused : goal.returns-in_err-take_hand-clause-refused
+returns-in_err-take_hand-clause-refused g c =
     let left = into_iter_items c.next.new.self in
-    refused_on g.T.VerdictVisitor.CONTINUES g.T.VerdictVisitor.KEEPS (g.T.VerdictVisitor.Took c.args.visitor.now c.loop-hand.visitor) c.args.records left c.in-Some.hand c.loop-hand.index c.loop-hand.kept.items c.in-Err.fault
+    let p = err_from_is_err_and c.from_residual-in_err-take_hand.result c.from_residual-in_err-take_hand.ensures.1 in
+    rw (p.1, p.2) (refused_on g.T.VerdictVisitor.CONTINUES g.T.VerdictVisitor.KEEPS (g.T.VerdictVisitor.Took c.args.visitor.now c.loop-hand.visitor) c.args.records left c.in-Some.hand c.loop-hand.index c.loop-hand.kept.items c.in_err-take_hand.field-0.0
     (subst (λ (rest : List Record). AreOnTheWay g.T.VerdictVisitor.CONTINUES g.T.VerdictVisitor.KEEPS (g.T.VerdictVisitor.Took c.args.visitor.now c.loop-hand.visitor) c.args.records rest c.loop-hand.index c.loop-hand.kept.items) c.in-Some.ensures.steps.0 c.loop-hand.invariant.way)
-    c.in-Err.ensures.continues c.in-Err.ensures.refused
+    c.in_err-take_hand.ensures.continues c.in_err-take_hand.ensures.refused)
 
 pub loop-hand-preserved : goal.loop-hand-preserved
 loop-hand-preserved g c =
@@ -39,7 +41,7 @@ loop-hand-preserved g c =
       is_finite = tt;
       way = one_on g.T.VerdictVisitor.CONTINUES g.T.VerdictVisitor.KEEPS (g.T.VerdictVisitor.Took c.args.visitor.now c.loop-hand.visitor) (g.T.VerdictVisitor.Took c.args.visitor.now c.take_hand.new.visitor) c.args.records left c.in-Some.hand c.loop-hand.index c.loop-hand.kept.items c.take_hand.new.kept.items
           (subst (λ (rest : List Record). AreOnTheWay g.T.VerdictVisitor.CONTINUES g.T.VerdictVisitor.KEEPS (g.T.VerdictVisitor.Took c.args.visitor.now c.loop-hand.visitor) c.args.records rest c.loop-hand.index c.loop-hand.kept.items) next c.loop-hand.invariant.way)
-          (c.in-Ok.ensures.taken c.args.visitor.now);
+          (c.in_ok-take_hand.ensures.taken c.args.visitor.now);
       counted = omega (arith, c.loop-hand.invariant.counted, ap length next);
       sound = All-rest IsSoundRecord c.in-Some.hand left (into_iter_items c.loop-hand.hand-iterator) next c.loop-hand.invariant.sound;
     }

@@ -5,8 +5,8 @@ use Rattle.hand_canon.specs.declared.writing.WriteRefusal.TheVariants as refusal
 use Rattle.convert_core.proofs.Taken.{all_counted}
 use Rattle.convert_core.proofs.WrittenLines.{behind_refused, none_is, now_refused, now_spelled}
 use Rattle.convert_core.specs.Lines.{IsWritten}
-use Rattle.convert_core.specs.Verdicts.{Legal}
-use Rattle.convert_core.proofs.lines.WriterVerdictVisitor.take.Goals as goal
+use Rattle.convert_core.specs.Verdicts.{Legal, legal_plays}
+use Rattle.convert_core.proofs.lines.WriterVerdictVisitor.legal.Goals as goal
 
 pub returns-then-is_some : goal.returns-then-is_some
 returns-then-is_some g c = λ start before counted legal took.
@@ -26,7 +26,8 @@ returns-in_ok-push_line-in-None g c = λ start before counted legal took.
       subst (λ (play : Play). IsWritten (g.N.Notation.meaning it.to.now) it.keep it.refusal c.push_line.new.out.items (before ++ Legal play ∷ [])) c.play-play.ensures.same
           (now_spelled (g.N.Notation.meaning it.to.now) it.keep it.refusal it.out.items c.push_line.new.out.items before c.play-play.result.now
           none (sym c.spells.ensures ∙ c.in-None.is) took.2
-          (c.in_ok-push_line-in-None.ensures.line took.2.lined _ (sym (all_counted before (legal refl)) ∙ counted) (took.2.spell none))),
+          (subst (λ (play : Play). (g.N.Notation.meaning it.to.now).Spell (legal_plays before ++ play ∷ []) c.push_line.new.out.items) c.new-play.ensures
+          (c.in_ok-push_line-in-None.ensures.line took.2.lined _ (sym (all_counted before (legal refl)) ∙ counted) (took.2.spell none)))),
     )
 
 pub returns-in-Some : goal.returns-in-Some
