@@ -7,7 +7,7 @@ use Rattle.std.proofs.lemmas.List.{length-replicate}
 use Rattle.std.proofs.lemmas.Option.{same_Some}
 use Rattle.card_set.specs.Refusal.{WasRefused}
 use Rattle.command_words.specs.Command as commands
-use Rattle.command_words.specs.Command.{Command, input_of, reads_input}
+use Rattle.command_words.specs.Command.{Command, has_input, input_of}
 use Rattle.command_words.specs.Words.{Request}
 use Rattle.command_words.specs.declared.command.EachQuestion.{EachQuestion}
 use Rattle.convert_core.specs.Conversion.{IsConversion as IsConverting, IsConverted, IsPlaysRefusal, IsReadFault, ReadAsRefused}
@@ -58,7 +58,7 @@ beyond n (Some left) P many each = each left many
 beyond n None P many each = let long : List ℕ = replicate (suc n) 0 in (long, each long (omega (arith, length-replicate {A = ℕ} (suc n) 0)))
 
 -- a command that reads an input has its notation
-input_given : (command : Command Format) → reads_input command ≡ true → is_some (input_of command) ≡ true
+input_given : (command : Command Format) → has_input command ≡ true → is_some (input_of command) ≡ true
 input_given (commands.Load seed hands) reads = cc (reads)
 input_given command reads = refl
 
@@ -68,7 +68,7 @@ too_long : (input : Option Format) (command : Command Format) (bytes : List ℕ)
 too_long (Some reader) command bytes given more = answers.TooLong more
 too_long None command bytes given more = cc (given)
 
-pub answer_beyond : (command : Command Format) (left : Option (List ℕ)) (answer : Answer) → reads_input command ≡ true
+pub answer_beyond : (command : Command Format) (left : Option (List ℕ)) (answer : Answer) → has_input command ≡ true
     → IfSome left (λ l. most_input < length l) → answer ≡ to_excess → OfBytes left (λ l. IsAnswer command l answer)
 answer_beyond command left answer reads many is =
     beyond most_input left _ many (λ bytes more. subst (λ (a : Answer). IsAnswer command bytes a) (sym is) (too_long (input_of command) command bytes (input_given command reads) more))

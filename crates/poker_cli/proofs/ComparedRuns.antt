@@ -13,7 +13,7 @@ use Rattle.convert_core.specs.Conversion.{ReadAsPlays}
 use Rattle.convert_core.proofs.LawfulNotations.{read_sound}
 use Rattle.hand_canon.specs.Sound.{IsSound}
 use Rattle.hand_differences.proofs.SameHands.{made_none, neither, same_traces, same_with_notes}
-use Rattle.hand_differences.specs.FirstDifference.{PlainDifference, first_difference}
+use Rattle.hand_differences.specs.FirstDifference.{PlainDifference, reported_difference}
 use Rattle.hand_canon.specs.SameHands.{AllPaired}
 use Rattle.hand_canon.specs.declared.trace.Play.{Play}
 use Rattle.poker_cli.specs.Answer as answers
@@ -36,7 +36,7 @@ use Rattle.poker_cli.proofs.Headline.{IsUnread, not_unread}
 
 -- two sound plays have no difference if and only if they are the same hand
 each_same : (notes : Bool) (place : ℕ) (play other : Play) → IsSound play → IsSound other
-    → (first_difference notes place play other ≡ None) ↔ IsSameHand notes place play other
+    → (reported_difference notes place play other ≡ None) ↔ IsSameHand notes place play other
 each_same true place play other sound too = same_with_notes place play other sound too
 each_same false place play other sound too = same_traces place play other sound too
 
@@ -60,7 +60,7 @@ record IsFirstFrom (notes : Bool) (place : ℕ) (plays others : List Play) (diff
   other : Play
   here : slice_get plays count ≡ Some play
   there : slice_get others count ≡ Some other
-  first : first_difference notes (place + count) play other ≡ Some differs.difference
+  first : reported_difference notes (place + count) play other ≡ Some differs.difference
 
 first_from : (notes : Bool) (place : ℕ) (plays others : List Play) (differs : DifferentHand) → AllByRecursion IsSound plays → AllByRecursion IsSound others
     → first_different notes place plays others ≡ Some differs → IsFirstFrom notes place plays others differs
@@ -68,9 +68,9 @@ unfolding first_different AllPaired
 first_from notes place [] others differs sound too is = absurd (cc (is))
 first_from notes place (p ∷ ps) [] differs sound too is = absurd (cc (is))
 first_from notes place (p ∷ ps) (q ∷ qs) differs sound too is =
-    go (first_difference notes place p q) refl (λ so. first_from notes (place + 1) ps qs differs sound.1 too.1 so) is
+    go (reported_difference notes place p q) refl (λ so. first_from notes (place + 1) ps qs differs sound.1 too.1 so) is
   where
-    go : (found : Option PlainDifference) → first_difference notes place p q ≡ found
+    go : (found : Option PlainDifference) → reported_difference notes place p q ≡ found
         → (first_different notes (place + 1) ps qs ≡ Some differs → IsFirstFrom notes (place + 1) ps qs differs)
         → here_or_behind place found (first_different notes (place + 1) ps qs) ≡ Some differs
         → IsFirstFrom notes place (p ∷ ps) (q ∷ qs) differs
@@ -85,7 +85,7 @@ first_from notes place (p ∷ ps) (q ∷ qs) differs sound too is =
           other = rest.other;
           here = rest.here;
           there = rest.there;
-          first = subst (λ (n : ℕ). first_difference notes n rest.play rest.other ≡ Some differs.difference) moved rest.first;
+          first = subst (λ (n : ℕ). reported_difference notes n rest.play rest.other ≡ Some differs.difference) moved rest.first;
         }
     go (Some difference) found behind so =
         let here : DifferentHand = record { number = place + 1; difference = difference } in
@@ -101,7 +101,7 @@ first_from notes place (p ∷ ps) (q ∷ qs) differs sound too is =
           here = refl;
           there = refl;
           first =
-              subst (λ (n : ℕ). first_difference notes n p q ≡ Some differs.difference) still
+              subst (λ (n : ℕ). reported_difference notes n p q ≡ Some differs.difference) still
               (found ∙ ap (λ (d : DifferentHand). Some d.difference) same);
         }
 
@@ -119,7 +119,7 @@ first_is notes plays others differs sound too is =
       other = found.other;
       here = subst (λ (n : ℕ). slice_get plays n ≡ Some found.play) count found.here;
       there = subst (λ (n : ℕ). slice_get others n ≡ Some found.other) count found.there;
-      first = subst (λ (n : ℕ). first_difference notes n found.play found.other ≡ Some differs.difference) place found.first;
+      first = subst (λ (n : ℕ). reported_difference notes n found.play found.other ≡ Some differs.difference) place found.first;
     }
 
 -- if no hand differs, all hands that both files have are the same
@@ -132,7 +132,7 @@ so_far notes place [] (q ∷ qs) sound too none = tt
 so_far notes place (p ∷ ps) [] sound too none = tt
 so_far notes place (p ∷ ps) (q ∷ qs) sound too none =
     let parts = neither _ (first_different notes (place + 1) ps qs) none in (
-      (each_same notes place p q sound.0 too.0).0 (made_none _ (first_difference notes place p q) parts.0),
+      (each_same notes place p q sound.0 too.0).0 (made_none _ (reported_difference notes place p q) parts.0),
       so_far notes (place + 1) ps qs sound.1 too.1 parts.1,
     )
 

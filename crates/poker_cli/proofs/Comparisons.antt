@@ -16,7 +16,7 @@ use Rattle.convert_core.proofs.Paired.{each_both, each_spelled, paired_below, pa
 use Rattle.first_fault.specs.declared.limits.TheConstants.{MOST_HANDS}
 use Rattle.hand_canon.specs.Sound.{IsSound}
 use Rattle.hand_differences.proofs.SameHands.{made_none, neither, same_traces, same_with_notes}
-use Rattle.hand_differences.specs.FirstDifference.{PlainDifference, first_difference}
+use Rattle.hand_differences.specs.FirstDifference.{PlainDifference, reported_difference}
 use Rattle.hand_canon.specs.SameHands.{AllPaired, AreSameHands, kept_notes}
 use Rattle.hand_canon.specs.declared.trace.Play.{Play}
 use Rattle.hand_canon.specs.declared.writing.Keep.{Keep}
@@ -94,7 +94,7 @@ by_done found hands others none same =
 
 -- what holds of each pair if nothing differs, and the converse
 paired_of_none : (notes : Bool) (P : ℕ → Play → Play → Type 0)
-    → ((place : ℕ) (play other : Play) → IsSound play → IsSound other → first_difference notes place play other ≡ None → P place play other)
+    → ((place : ℕ) (play other : Play) → IsSound play → IsSound other → reported_difference notes place play other ≡ None → P place play other)
     → (place : ℕ) (ps qs : List Play) → AllByRecursion IsSound ps → AllByRecursion IsSound qs → first_different notes place ps qs ≡ None
     → length ps ≡ length qs → AllPaired P place ps qs
 unfolding first_different AllPaired
@@ -103,12 +103,12 @@ paired_of_none notes P each place [] (q ∷ qs) sound too none count = absurd (c
 paired_of_none notes P each place (p ∷ ps) [] sound too none count = absurd (cc)
 paired_of_none notes P each place (p ∷ ps) (q ∷ qs) sound too none count =
     let parts = neither _ (first_different notes (place + 1) ps qs) none in (
-      each place p q sound.0 too.0 (made_none _ (first_difference notes place p q) parts.0),
+      each place p q sound.0 too.0 (made_none _ (reported_difference notes place p q) parts.0),
       paired_of_none notes P each (place + 1) ps qs sound.1 too.1 parts.1 (omega (arith, count)),
     )
 
 none_of_paired : (notes : Bool) (P : ℕ → Play → Play → Type 0)
-    → ((place : ℕ) (play other : Play) → IsSound play → IsSound other → P place play other → first_difference notes place play other ≡ None)
+    → ((place : ℕ) (play other : Play) → IsSound play → IsSound other → P place play other → reported_difference notes place play other ≡ None)
     → (place : ℕ) (ps qs : List Play) → AllByRecursion IsSound ps → AllByRecursion IsSound qs → AllPaired P place ps qs
     → first_different notes place ps qs ≡ None
 unfolding first_different AllPaired
@@ -121,7 +121,7 @@ none_of_paired notes P each place (p ∷ ps) (q ∷ qs) sound too all =
     (each place p q sound.0 too.0 all.0) (none_of_paired notes P each (place + 1) ps qs sound.1 too.1 all.1)
 
 pub compared_as : (notes : Bool) (P : ℕ → Play → Play → Type 0)
-    → ((place : ℕ) (play other : Play) → IsSound play → IsSound other → (first_difference notes place play other ≡ None) ↔ P place play other)
+    → ((place : ℕ) (play other : Play) → IsSound play → IsSound other → (reported_difference notes place play other ≡ None) ↔ P place play other)
     → (plays others : List Play) → AllByRecursion IsSound plays → AllByRecursion IsSound others
     → ((compared notes plays others).status ≡ statuses.Done) ↔ AllPaired P 0 plays others
 compared_as notes P each plays others sound too = (

@@ -2,7 +2,7 @@
 use Rattle.std.proofs.Common.{◌≡◌, ℕ, ◌+◌, ◌<◌, ◌≤◌, Bool, List, [], ◌∷◌, length, drop, get_or, Option, Some, None, option_map, refl, ap, sym, ◌∙◌}
 use Rattle.std.specs.Option.{option_or}
 use Rattle.std.proofs.lemmas.List.{drop_all, drop_more}
-use Rattle.hand_differences.specs.FirstDifference.{PlainDifference, first_difference}
+use Rattle.hand_differences.specs.FirstDifference.{PlainDifference, reported_difference}
 use Rattle.hand_canon.specs.declared.trace.Play.{Play}
 use Rattle.poker_cli.specs.Compare.{DifferentHand, first_different}
 
@@ -23,19 +23,19 @@ module _ (notes : Bool) (plays others : List Play) where
       option_or (option_map (λ difference. record { number = place + 1; difference = difference }) found) (different_from (place + 1))
 
   pair : (place : ℕ) (play other : Play) → place < length plays → get_or plays place play ≡ play → place < length others
-      → get_or others place other ≡ other → different_from place ≡ here_or place (first_difference notes place play other)
+      → get_or others place other ≡ other → different_from place ≡ here_or place (reported_difference notes place play other)
   unfolding first_different
   pair place play other within at within_too at_too =
       rw (drop_more plays place play within, at, drop_more others place other within_too, at_too) refl
 
   pub differs_here : (place : ℕ) (play other : Play) (difference : PlainDifference) → place < length plays → get_or plays place play ≡ play
-      → place < length others → get_or others place other ≡ other → first_difference notes place play other ≡ Some difference
+      → place < length others → get_or others place other ≡ other → reported_difference notes place play other ≡ Some difference
       → different_from place ≡ Some (record { number = place + 1; difference = difference })
   differs_here place play other difference within at within_too at_too differs =
       pair place play other within at within_too at_too ∙ ap (here_or place) differs
 
   pub same_here : (place : ℕ) (play other : Play) (total : Option DifferentHand) → place < length plays → get_or plays place play ≡ play
-      → place < length others → get_or others place other ≡ other → first_difference notes place play other ≡ None
+      → place < length others → get_or others place other ≡ other → reported_difference notes place play other ≡ None
       → different_from place ≡ total → different_from (place + 1) ≡ total
   same_here place play other total within at within_too at_too same so_far =
       sym (ap (here_or place) same) ∙ sym (pair place play other within at within_too at_too) ∙ so_far

@@ -10,7 +10,7 @@ use Rattle.acpc_game.specs.GameView.{game_in}
 use Rattle.acpc_game.specs.SaidGames.{are_caps}
 use Rattle.acpc_game.specs.declared.game.Game.{Game}
 use Rattle.acpc_game.proofs.GameAgain.{kept_again, kept_game}
-use Rattle.acpc_format.specs.GameOf.{game_by_limit, game_of, game_with, is_sized_by_blind, no_limit_of}
+use Rattle.acpc_format.specs.GameOf.{game_by_limit, game_for, game_with, is_sized_by_blind, no_limit_of}
 use Rattle.chip_ledger.specs.SeatRow.{amounts_in}
 use Rattle.hand_canon.specs.declared.trace.Play.{Play}
 use Rattle.hand_canon.specs.declared.writing.Unspelled.{Unspelled}
@@ -22,8 +22,8 @@ use Rattle.poker_cli.specs.GameFiles.{GivesGame}
 use Rattle.poker_cli.proofs.GameLengths.{game_length}
 
 -- no hand states caps
-no_caps : (setup : Setup) (game : GameSaid) → game_of setup ≡ Ok game → game.caps ≡ None
-unfolding game_of
+no_caps : (setup : Setup) (game : GameSaid) → game_for setup ≡ Ok game → game.caps ≡ None
+unfolding game_for
 no_caps setup game is = by_limit (no_limit_of setup.code) is
   where
     by_tests : (no_limit short sized antes : Bool)
@@ -40,7 +40,7 @@ no_caps setup game is = by_limit (no_limit_of setup.code) is
         by_tests no_limit (has_short_stack (amounts_in setup.stacks) (amounts_in setup.blinds)) (is_sized_by_blind no_limit setup) (list_any (nat_lt 0) (amounts_in setup.antes)) one
 
 -- the file of a game that a hand fits gives that game
-gives_it : (setup : Setup) (game : Game) (text : List ℕ) → game_of setup ≡ Ok (game_in game) → text ≡ game_text (game_in game) → GivesGame (Some text) game
+gives_it : (setup : Setup) (game : Game) (text : List ℕ) → game_for setup ≡ Ok (game_in game) → text ≡ game_text (game_in game) → GivesGame (Some text) game
 gives_it setup game text fits written =
     let none : game.caps ≡ None = no_caps setup (game_in game) fits in
     let caps : IfSome game.caps (λ caps. are_caps caps ≡ true) = subst (λ (c : Option (List ℕ)). IfSome c (λ caps. are_caps caps ≡ true)) (sym none) tt in
@@ -51,7 +51,7 @@ gives_it setup game text fits written =
       says = ap game_said written ∙ kept_again game caps;
     }
 
-pub first_game : (play : Play) (rest : List Play) (game : Game) (text : List ℕ) → game_of play.trace.setup ≡ Ok (game_in game) → text ≡ game_text (game_in game)
+pub first_game : (play : Play) (rest : List Play) (game : Game) (text : List ℕ) → game_for play.trace.setup ≡ Ok (game_in game) → text ≡ game_text (game_in game)
     → IsGameReply (play ∷ rest) (done text)
 first_game play rest game text fits written =
     record {
@@ -63,13 +63,13 @@ first_game play rest game text fits written =
 
 -- the first of all plays
 pub first_of_all : (plays : List Play) (play : Play) (game : Game) (text : List ℕ) → 0 < length plays → play ≡ get_or plays 0 play
-    → game_of play.trace.setup ≡ Ok (game_in game) → text ≡ game_text (game_in game) → IsGameReply plays (done text)
+    → game_for play.trace.setup ≡ Ok (game_in game) → text ≡ game_text (game_in game) → IsGameReply plays (done text)
 first_of_all [] play game text some is fits written = absurd (omega (arith, some))
 first_of_all (first ∷ rest) play game text some is fits written =
-    first_game first rest game text (subst (λ (p : Play). game_of p.trace.setup ≡ Ok (game_in game)) is fits) written
+    first_game first rest game text (subst (λ (p : Play). game_for p.trace.setup ≡ Ok (game_in game)) is fits) written
 
 -- or a fact that no game can have is reported
-pub first_unspelled : (play : Play) (rest : List Play) (fact : Unspelled) → game_of play.trace.setup ≡ Err fact
+pub first_unspelled : (play : Play) (rest : List Play) (fact : Unspelled) → game_for play.trace.setup ≡ Err fact
     → IsGameReply (play ∷ rest) (to_unspelled 1 fact)
 first_unspelled play rest fact refused =
     record {

@@ -2,7 +2,7 @@
 use Rattle.std.proofs.Common.{◌≡◌, ◌⊎◌, ◌||◌, ℕ, ◌≤◌, true, List, length, Option, Some, None, IfSome, refl, subst, inl, inr, arith}
 use Rattle.acpc_game.specs.declared.game.Game.{Game as AnyGame}
 use Rattle.command_words.specs.Command as commands
-use Rattle.command_words.specs.Command.{Command, is_log, names_log, reads_file}
+use Rattle.command_words.specs.Command.{Command, has_other_file, is_about_logs, is_of_logs}
 use Rattle.command_words.specs.Words.{Plain, Request, Under}
 use Rattle.command_words.specs.declared.notation.NotationName.{NotationName}
 use Rattle.command_words.specs.declared.notation.NotationName.TheVariants as names
@@ -136,11 +136,11 @@ module _ (from to : Format) (keep : Keep) (bytes : List ℕ) where
 
 -- if a shelf is asked for a file, a notation is that of logs: a conversion has no other file
 plain_alone : (file : Option (List ℕ)) (command : Command PlainNotation) (from to : Format) (keep : Keep) → HasFile file (in_plain_formats command) (commands.Convert from to keep)
-    → reads_file command ≡ true → ⊥
+    → has_other_file command ≡ true → ⊥
 plain_alone file (commands.Compare first other name notes) from to keep has reads = let same = has.1.1.1 in cc (same)
 plain_alone file command from to keep has reads = cc (reads)
 
-of_logs : (game : AnyGame) (first second : NotationName) → is_log first || is_log second ≡ true → IsOfLogs (format_under game first) ⊎ IsOfLogs (format_under game second)
+of_logs : (game : AnyGame) (first second : NotationName) → is_of_logs first || is_of_logs second ≡ true → IsOfLogs (format_under game first) ⊎ IsOfLogs (format_under game second)
 of_logs game names.Acpc second log = inl tt
 of_logs game (names.Plain first) names.Acpc log = inr tt
 of_logs game (names.Plain first) (names.Plain second) log = cc (log)
@@ -151,7 +151,7 @@ same_logs from to first second keep kept same (inl log) = inl (subst IsOfLogs (c
 same_logs from to first second keep kept same (inr log) = inr (subst IsOfLogs (cc (same)) log)
 
 under_logs : (game : AnyGame) (file : Option (List ℕ)) (command : Command NotationName) (from to : Format) (keep : Keep)
-    → HasFile file (in_formats_under game command) (commands.Convert from to keep) → names_log command ≡ true → IsOfLogs from ⊎ IsOfLogs to
+    → HasFile file (in_formats_under game command) (commands.Convert from to keep) → is_about_logs command ≡ true → IsOfLogs from ⊎ IsOfLogs to
 under_logs game file (commands.Convert first second kept) from to keep has log =
     same_logs from to (format_under game first) (format_under game second) keep kept has (of_logs game first second log)
 under_logs game file (commands.Compare first other name notes) from to keep has log = let same = has.1.1.1 in cc (same)

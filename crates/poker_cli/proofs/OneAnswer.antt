@@ -9,7 +9,7 @@ use Rattle.acpc_game.specs.declared.game.Game.{Game as AnyGame}
 use Rattle.acpc_game.specs.GameFile.{game_said}
 use Rattle.acpc_game.specs.GameView.{game_in}
 use Rattle.command_words.specs.Command as commands
-use Rattle.command_words.specs.Command.{Command, file_of, input_of, reads_file, reads_input}
+use Rattle.command_words.specs.Command.{Command, file_of, has_input, has_other_file, input_of}
 use Rattle.command_words.specs.Words.{Plain, Request, Under}
 use Rattle.command_words.specs.declared.notation.NotationName.{NotationName}
 use Rattle.command_words.specs.declared.notation.PlainNotation.{PlainNotation}
@@ -48,7 +48,7 @@ use Rattle.poker_cli.specs.Convert as in_convert
 use Rattle.poker_cli.specs.Each as each_said
 use Rattle.poker_cli.specs.GameFiles as game_files
 use Rattle.poker_cli.specs.Judge as in_judge
-use Rattle.convert_core.specs.Formats.{AreSameIn, HaveFault, SayRecords, first_lines, first_refusal_in, kept_in, unspelled_in}
+use Rattle.convert_core.specs.Formats.{AreSameIn, HaveFault, SayRecords, first_refusal_in, kept_in, start_lines, unspelled_in}
 use Rattle.poker_cli.specs.LegalInputs.{AsksOfLegal, PrintsAll}
 use Rattle.poker_cli.specs.OneAnswer.{AreOneAnswer}
 use Rattle.poker_cli.specs.Asked.{HasFile, IsAsked}
@@ -291,13 +291,13 @@ of_plays (commands.Load seed hands) Say HaveFault lines answer of is = absurd of
 of_plays command Say HaveFault lines answer of is = is
 
 one_read : (command : Command Format) (reader : Format) (bytes : List ℕ) (answer other : Answer)
-    → IsAnswerOf command (SayRecords reader bytes) (HaveFault reader bytes) (first_lines reader bytes) answer
-    → IsAnswerOf command (SayRecords reader bytes) (HaveFault reader bytes) (first_lines reader bytes) other → AreOneAnswer command answer other
+    → IsAnswerOf command (SayRecords reader bytes) (HaveFault reader bytes) (start_lines reader bytes) answer
+    → IsAnswerOf command (SayRecords reader bytes) (HaveFault reader bytes) (start_lines reader bytes) other → AreOneAnswer command answer other
 one_read (commands.Each from question) reader bytes answer other is it =
     same_of_each (SayRecords reader bytes) (HaveFault reader bytes) question answer other
     ((lawful_of reader).one_reading bytes) (one_told reader bytes) (say_or_fault reader bytes) is it
 one_read (commands.Judge from asked) reader bytes answer other is it =
-    same_judgement (SayRecords reader bytes) (HaveFault reader bytes) (if_asked asked (first_lines reader bytes)) answer other
+    same_judgement (SayRecords reader bytes) (HaveFault reader bytes) (if_asked asked (start_lines reader bytes)) answer other
     ((lawful_of reader).one_reading bytes) (one_told reader bytes) (say_or_fault reader bytes) is it
 one_read command reader bytes answer other is it =
     same_answer (SayRecords reader bytes) (HaveFault reader bytes) (IsReply command) (AreOneAnswer command) answer other
@@ -311,13 +311,13 @@ one_answer_from command reader bytes answer _ (answers.Read few _ is) (answers.T
 one_answer_from command reader bytes answer other (answers.Read few _ is) (answers.Read less _ it) = one_read command reader bytes answer other is it
 
 -- the notation of the input is that of the command, if it reads one
-one_answer_by : (input : Option Format) (command : Command Format) (bytes : List ℕ) (answer other : Answer) → reads_input command ≡ true
+one_answer_by : (input : Option Format) (command : Command Format) (bytes : List ℕ) (answer other : Answer) → has_input command ≡ true
     → IsAnswerBy input command bytes answer → IsAnswerBy input command bytes other → AreOneAnswer command answer other
 one_answer_by (Some reader) command bytes answer other reads is it = one_answer_from command reader bytes answer other is it
 one_answer_by None (commands.Load seed hands) bytes answer other reads is it = cc
 one_answer_by None command bytes answer other reads is it = absurd is
 
-pub one_answer : (command : Command Format) (bytes : List ℕ) (answer other : Answer) → reads_input command ≡ true
+pub one_answer : (command : Command Format) (bytes : List ℕ) (answer other : Answer) → has_input command ≡ true
     → IsAnswer command bytes answer → IsAnswer command bytes other → AreOneAnswer command answer other
 one_answer command bytes answer other reads is it = one_answer_by (input_of command) command bytes answer other reads is it
 
@@ -357,7 +357,7 @@ asked_from command reader bytes plays _ of few read (answers.TooLong many) = abs
 asked_from command reader bytes plays answer of few read (answers.Read less _ to) =
     made_of (SayRecords reader bytes) (HaveFault reader bytes) (IsReply command) read.records plays answer ((lawful_of reader).one_reading bytes) (read_the_same reader bytes)
     (say_or_fault reader bytes) read.say read.are
-    (of_plays command (SayRecords reader bytes) (HaveFault reader bytes) (first_lines reader bytes) answer of to)
+    (of_plays command (SayRecords reader bytes) (HaveFault reader bytes) (start_lines reader bytes) answer of to)
 
 asked_by : (input : Option Format) (command : Command Format) (bytes : List ℕ) (plays : List Play) (answer : Answer) → IsOfPlays command
     → length bytes ≤ most_input → IfSome input (λ reader. ReadAsPlays (SayRecords reader bytes) plays) → IsAnswerBy input command bytes answer
@@ -451,7 +451,7 @@ one_file file (commands.Compare from to name notes) asked other has it =
 one_file file named asked other has it = has ∙ sym it
 
 -- and one that is within the limit
-not_too_long : (file : Option (List ℕ)) (named asked : Command Format) (text : List ℕ) → HasFile file named asked → reads_file named ≡ true → file ≡ Some text
+not_too_long : (file : Option (List ℕ)) (named asked : Command Format) (text : List ℕ) → HasFile file named asked → has_other_file named ≡ true → file ≡ Some text
     → most_input < length text → ⊥
 not_too_long file (commands.Compare from to name notes) asked text has reads is many =
     let same : has.0 ≡ text = same_Some has.0 text (sym has.1.0 ∙ is) in

@@ -11,7 +11,7 @@ use Rattle.hand_canon.specs.SaidNotes.{SaidNotes}
 use Rattle.hand_canon.specs.SameHands.{AllPaired, AreSameHand}
 use Rattle.hand_canon.specs.declared.trace.Play.{Play}
 use Rattle.hand_canon.specs.declared.trace.Trace.{Trace}
-use Rattle.hand_differences.specs.FirstDifference.{PlainDifference, first_difference, note_difference, play_difference}
+use Rattle.hand_differences.specs.FirstDifference.{PlainDifference, note_difference, play_difference, reported_difference}
 use Rattle.poker_cli.specs.AnswerParts.{Answer, to_refusal}
 use Rattle.poker_cli.specs.Compare as in_compare
 use Rattle.poker_cli.specs.Compare.{DifferentHand, IsComparedWith, compared, compared_by, first_different, in_file}
@@ -25,8 +25,8 @@ Same = AreSameHand (λ notes. notes)
 
 -- the same hands have the same difference
 same_difference : (notes : Bool) (place : ℕ) (p q o t : Play) → Same place p q → Same place o t
-    → first_difference notes place p o ≡ first_difference notes place q t
-unfolding first_difference
+    → reported_difference notes place p o ≡ reported_difference notes place q t
+unfolding reported_difference
 same_difference notes place p q o t same too =
     ap₂ option_or
     (ap₂ (λ (a b : Trace). play_difference (record p { trace = a }) (record o { trace = b })) same.trace too.trace)

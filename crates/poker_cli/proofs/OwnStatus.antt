@@ -2,7 +2,7 @@
 use Rattle.std.proofs.Common.{◌≡◌, ℕ, ◌==◌, Bool, true, false, if◌then◌else◌, List, [], ◌∷◌, length, Option, Some, None, IfOk, Result, Ok, Err, subst, sym}
 use Rattle.acpc_game.specs.GameFile.{GameSaid}
 use Rattle.acpc_game.specs.declared.game.Game.{Game}
-use Rattle.acpc_format.specs.GameOf.{game_of}
+use Rattle.acpc_format.specs.GameOf.{game_for}
 use Rattle.chip_ledger.specs.declared.numbers.Seat.{Seat}
 use Rattle.command_words.specs.Command as commands
 use Rattle.command_words.specs.Command.{Command, input_of}
@@ -84,7 +84,7 @@ game_own (Err fact) = tt
 
 first_game_own : (plays : List Play) → IsOfInput (to_first_game plays).status
 first_game_own [] = tt
-first_game_own (play ∷ plays) = game_own (game_of play.trace.setup)
+first_game_own (play ∷ plays) = game_own (game_for play.trace.setup)
 
 options_own : (number events : ℕ) (plays : List Play) (answer : Answer) → AreOptionsAt number events plays answer → IsOfInput answer.status
 options_own number events plays _ (in_options.NoHand none) = tt

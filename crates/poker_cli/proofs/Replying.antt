@@ -3,7 +3,7 @@ use Rattle.std.proofs.Common.{◌≡◌, ℕ, ◌<◌, ◌≤◌, Bool, true, fa
 use Rattle.std.proofs.lemmas.Option.{same_Some}
 use Rattle.std.proofs.lemmas.Result.{IfErr-weaker}
 use Rattle.command_words.specs.Command as commands
-use Rattle.command_words.specs.Command.{Command, command_in, file_of, reads_file, reads_input, with_notations}
+use Rattle.command_words.specs.Command.{Command, command_in, file_of, has_input, has_other_file, with_notations}
 use Rattle.command_words.specs.declared.command.Command as made_command
 use Rattle.command_words.specs.declared.command.Command.TheVariants as cases
 use Rattle.acpc_game.specs.declared.game.Game.{Game}
@@ -72,11 +72,11 @@ kept_there None name file input read found = tt
 -- ---- a command without another file
 
 -- a command that reads no other file names none, and stays the same whatever the other file is
-pub names_none : (command : made_command.Command Format) (name : List ℕ) → reads_file (command_in name command) ≡ false → file_of (command_in name command) ≡ None
+pub names_none : (command : made_command.Command Format) (name : List ℕ) → has_other_file (command_in name command) ≡ false → file_of (command_in name command) ≡ None
 names_none (cases.Compare from other notes) name none = cc (none)
 names_none command name none = refl
 
-plain_file : (command : made_command.Command Format) (name text : List ℕ) (file : Option (List ℕ)) → reads_file (command_in name command) ≡ false
+plain_file : (command : made_command.Command Format) (name text : List ℕ) (file : Option (List ℕ)) → has_other_file (command_in name command) ≡ false
     → HasFile file (command_in name command) (command_in text command)
 plain_file (cases.Compare from other notes) name text file none = cc (none)
 plain_file command name text file none = refl
@@ -87,12 +87,12 @@ none_named None Useless file none useless = useless
 none_named (Some name) Useless file none useless = cc (none)
 
 -- the other file has no part in whether the input is read
-pub same_input : (command : made_command.Command Format) (name text : List ℕ) → reads_input (command_in name command) ≡ reads_input (command_in text command)
+pub same_input : (command : made_command.Command Format) (name text : List ℕ) → has_input (command_in name command) ≡ has_input (command_in text command)
 same_input (cases.Load seed hands) name text = refl
 same_input command name text = refl
 
 module _ (shown : Option FilesByName) (left : Option (List ℕ)) (command : made_command.Command Format) (name : List ℕ)
-    (none : reads_file (command_in name command) ≡ false) where
+    (none : has_other_file (command_in name command) ≡ false) where
   -- the answer does not depend on files
   pub answer_alone : (result : Result made.Answer NoAnswerError)
       → IfOk result (λ answer. OfBytes left (λ bytes. IsAnswer (command_in [] command) bytes (answer_said answer)))
@@ -107,12 +107,12 @@ module _ (shown : Option FilesByName) (left : Option (List ℕ)) (command : made
   answer_alone (Err why) is = tt
 
   pub none_alone : (result : Result made.Answer NoAnswerError) → IfErr result (λ why. ComesFirst why → ⊥)
-      → (IsErrOf result whys.ReadFault → reads_input (command_in [] command) ≡ true)
+      → (IsErrOf result whys.ReadFault → has_input (command_in [] command) ≡ true)
       → IfErr result (λ why. HasNoReply (needs None (command_in name command)) left shown why)
   none_alone (Ok answer) alone reads = tt
   none_alone (Err whys.ReadFault) alone reads =
       any_named shown (file_of (command_in name command))
-      (λ file. OfBytes left (λ bytes. (reads_input (command_in name command) ≡ true) × (IsWithout (needs None (command_in name command)) (two_files None file) → ⊥)))
+      (λ file. OfBytes left (λ bytes. (has_input (command_in name command) ≡ true) × (IsWithout (needs None (command_in name command)) (two_files None file) → ⊥)))
       (λ file. of_all left _
       (λ bytes. (same_input command name [] ∙ reads refl, unneeded file)))
     where
@@ -139,18 +139,18 @@ module _ (shown : Option FilesByName) (left : Option (List ℕ)) (command : made
 
 -- ---- a command with another file
 
-names_it : (command : made_command.Command Format) (name : List ℕ) → reads_file (command_in name command) ≡ true → file_of (command_in name command) ≡ Some name
+names_it : (command : made_command.Command Format) (name : List ℕ) → has_other_file (command_in name command) ≡ true → file_of (command_in name command) ≡ Some name
 names_it (cases.Compare from other notes) name reads = refl
 names_it command name reads = cc (reads)
 
-has_file : (command : made_command.Command Format) (name text : List ℕ) (file : Option (List ℕ)) → reads_file (command_in name command) ≡ true
+has_file : (command : made_command.Command Format) (name text : List ℕ) (file : Option (List ℕ)) → has_other_file (command_in name command) ≡ true
     → file ≡ Some text → length text ≤ most_input → HasFile file (command_in name command) (command_in text command)
 has_file (cases.Compare from other notes) name text file reads there few = (text, (there, (few, refl)))
 has_file command name text file reads there few = cc (reads)
 
 -- the file of a name has these bytes
 pub beside_reply : (shown : Option FilesByName) (left : Option (List ℕ)) (name : List ℕ) (command : made_command.Command Format) (text : List ℕ)
-    → (result : Result made.Answer NoAnswerError) → reads_file (command_in name command) ≡ true
+    → (result : Result made.Answer NoAnswerError) → has_other_file (command_in name command) ≡ true
     → OfFile shown name (λ other. (other ≡ Some text) × (length text ≤ most_input))
     → IfOk result (λ answer. OfBytes left (λ bytes. IsAnswer (command_in text command) bytes (answer_said answer)))
     → IfOk result (λ answer. OfFile shown name (λ other. OfBytes left (λ bytes. IsAnswerBeside (command_in name command) other bytes (answer_said answer))))
@@ -164,7 +164,7 @@ beside_reply shown left name command text (Ok answer) reads there is =
 beside_reply shown left name command text (Err why) reads there is = tt
 
 -- or more bytes than the limit
-pub long_reply : (shown : Option FilesByName) (left : Option (List ℕ)) (name : List ℕ) (named : Command Format) (answer : Answer) → reads_file named ≡ true
+pub long_reply : (shown : Option FilesByName) (left : Option (List ℕ)) (name : List ℕ) (named : Command Format) (answer : Answer) → has_other_file named ≡ true
     → OfFile shown name (λ other. HasNoFile other no_files.TooLong) → answer ≡ to_file_excess
     → OfFile shown name (λ other. OfBytes left (λ bytes. IsAnswerBeside named other bytes answer))
 long_reply shown left name named answer reads long is =
@@ -174,7 +174,7 @@ long_reply shown left name named answer reads long is =
     (λ bytes. subst (λ (a : Answer). IsAnswerBeside named other bytes a) (sym is) (answers.FileTooLong reads found.0 found.1.0 found.1.1))) long
 
 module _ (shown : Option FilesByName) (left : Option (List ℕ)) (command : made_command.Command Format) (name : List ℕ)
-    (reads : reads_file (command_in name command) ≡ true) where
+    (reads : has_other_file (command_in name command) ≡ true) where
   -- what is known of the file of the name is known of the other file
   pub of_other : (P : Option (List ℕ) → Type 0) → OfFile shown name P → OfNamed shown (file_of (command_in name command)) P
   of_other P is = subst (λ (other : Option (List ℕ)). OfNamed shown other P) (sym (names_it command name reads)) is
@@ -191,10 +191,10 @@ module _ (shown : Option FilesByName) (left : Option (List ℕ)) (command : made
   answer_beside (Err why) is = tt
 
   -- whether the input is read
-  pub input_read : reads_input (command_in name command) ≡ true
+  pub input_read : has_input (command_in name command) ≡ true
   input_read = go command reads
     where
-      go : (command : made_command.Command Format) → reads_file (command_in name command) ≡ true → reads_input (command_in name command) ≡ true
+      go : (command : made_command.Command Format) → has_other_file (command_in name command) ≡ true → has_input (command_in name command) ≡ true
       go (cases.Load seed hands) reads = cc (reads)
       go command reads = refl
 
@@ -205,9 +205,9 @@ module _ (shown : Option FilesByName) (left : Option (List ℕ)) (command : made
       → IfErr result (λ why. HasNoReply (needs None (command_in name command)) left shown why)
   none_beside (Ok answer) there of_file missing = tt
   none_beside (Err whys.ReadFault) there of_game missing =
-      of_other (λ file. OfBytes left (λ bytes. (reads_input (command_in name command) ≡ true) × (IsWithout (needs None (command_in name command)) (two_files None file) → ⊥)))
+      of_other (λ file. OfBytes left (λ bytes. (has_input (command_in name command) ≡ true) × (IsWithout (needs None (command_in name command)) (two_files None file) → ⊥)))
       (of_file shown name (λ file. IsNotThere file → ⊥)
-      (λ file. OfBytes left (λ bytes. (reads_input (command_in name command) ≡ true) × (IsWithout (needs None (command_in name command)) (two_files None file) → ⊥)))
+      (λ file. OfBytes left (λ bytes. (has_input (command_in name command) ≡ true) × (IsWithout (needs None (command_in name command)) (two_files None file) → ⊥)))
       (λ file here. of_all left _ (λ bytes. (input_read, unneeded file here))) (there refl))
     where
       unneeded : (file : Option (List ℕ)) → (IsNotThere file → ⊥) → IsWithout (needs None (command_in name command)) (two_files None file) → ⊥
@@ -272,14 +272,14 @@ module _ (shown : Option FilesByName) (left : Option (List ℕ)) (name : List �
   none_under whys.ReadFault none =
       of_file shown name (λ file. GivesGame file game)
       (λ file. OfNamed shown (file_of command)
-      (λ other. OfBytes left (λ bytes. (reads_input command ≡ true) × (IsWithout (needs (Some name) command) (two_files file other) → ⊥))))
+      (λ other. OfBytes left (λ bytes. (has_input command ≡ true) × (IsWithout (needs (Some name) command) (two_files file other) → ⊥))))
       (λ file given.
       of_named shown (file_of command)
-      (λ other. OfBytes left (λ bytes. (reads_input command ≡ true) × (IsWithout (needs None command) (two_files None other) → ⊥)))
-      (λ other. OfBytes left (λ bytes. (reads_input command ≡ true) × (IsWithout (needs (Some name) command) (two_files file other) → ⊥)))
+      (λ other. OfBytes left (λ bytes. (has_input command ≡ true) × (IsWithout (needs None command) (two_files None other) → ⊥)))
+      (λ other. OfBytes left (λ bytes. (has_input command ≡ true) × (IsWithout (needs (Some name) command) (two_files file other) → ⊥)))
       (λ other.
-      bytes_told left (λ bytes. (reads_input command ≡ true) × (IsWithout (needs None command) (two_files None other) → ⊥))
-      (λ bytes. (reads_input command ≡ true) × (IsWithout (needs (Some name) command) (two_files file other) → ⊥))
+      bytes_told left (λ bytes. (has_input command ≡ true) × (IsWithout (needs None command) (two_files None other) → ⊥))
+      (λ bytes. (has_input command ≡ true) × (IsWithout (needs (Some name) command) (two_files file other) → ⊥))
       (λ bytes is. (is.0, without_other file other given is.1))) none) gives
   none_under whys.ShelfFault none = inl refl
   none_under whys.GameMissing none =

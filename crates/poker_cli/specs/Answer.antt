@@ -4,7 +4,7 @@
 use Rattle.std.specs.Prelude.{◌≡◌, ℕ, ◌<◌, ◌≤◌, true, List, length, Option, Some, None}
 use Rattle.acpc_game.specs.declared.game.Game.{Game}
 use Rattle.command_words.specs.Command as commands
-use Rattle.command_words.specs.Command.{Command, input_of, reads_file}
+use Rattle.command_words.specs.Command.{Command, has_other_file, input_of}
 use Rattle.command_words.specs.Words.{Plain, Request, Under}
 use Rattle.command_words.specs.declared.notation.NotationName.{NotationName}
 use Rattle.convert_core.specs.declared.format_fault.FormatFault.{FormatFault}
@@ -21,7 +21,7 @@ use Rattle.poker_cli.specs.Equity.{IsEquityAt}
 use Rattle.poker_cli.specs.Files.{Files}
 use Rattle.poker_cli.specs.Game.{IsGameReply}
 use Rattle.poker_cli.specs.GameFiles.{GivesGame, GivesNoGame}
-use Rattle.convert_core.specs.Formats.{HaveFault, SayRecords, first_lines}
+use Rattle.convert_core.specs.Formats.{HaveFault, SayRecords, start_lines}
 use Rattle.poker_cli.specs.Judge.{IsJudgement, if_asked}
 use Rattle.poker_cli.specs.Load.{IsSummed}
 use Rattle.poker_cli.specs.NamedFormats.{in_formats_under, in_plain_formats}
@@ -67,7 +67,7 @@ pub data IsAnswerFrom (command : Command Format) (reader : Format) (bytes : List
   -- the bytes are within the limit, and are read
   Read : length bytes ≤ most_input → (answer : Answer)
       → IsAnswerOf command (SayRecords reader bytes) (HaveFault reader bytes)
-      (first_lines reader bytes) answer
+      (start_lines reader bytes) answer
       → IsAnswerFrom command reader bytes answer
 
 -- the answer to a command that reads no input
@@ -88,7 +88,7 @@ IsAnswer command bytes answer = IsAnswerBy (input_of command) command bytes answ
 pub data IsAnswerBeside (named : Command Format) (file : Option (List ℕ)) (bytes : List ℕ) : Answer
     → Type 0 where
   -- the file is too long
-  FileTooLong : reads_file named ≡ true → (text : List ℕ) → file ≡ Some text
+  FileTooLong : has_other_file named ≡ true → (text : List ℕ) → file ≡ Some text
       → most_input < length text → IsAnswerBeside named file bytes to_file_excess
   -- the command is answered
   Answered : (asked : Command Format) → HasFile file named asked → (answer : Answer)

@@ -7,7 +7,7 @@ use Rattle.convert_core.specs.Conversion.{ReadAsPlays, ReadAsRefused}
 use Rattle.convert_core.specs.declared.format_fault.FormatFault.{FormatFault}
 use Rattle.convert_core.specs.declared.refusal.Refusal.{Refusal}
 use Rattle.hand_differences.specs.DifferenceText.{difference_text}
-use Rattle.hand_differences.specs.FirstDifference.{PlainDifference, difference_said, first_difference}
+use Rattle.hand_differences.specs.FirstDifference.{PlainDifference, difference_said, reported_difference}
 use Rattle.hand_canon.specs.declared.trace.Play.{Play}
 use Rattle.poker_cli.specs.AnswerParts.{Answer, done, most_input, refusal, to_fault, to_refusal}
 use Rattle.convert_core.specs.Formats.{HaveFault, SayRecords}
@@ -35,7 +35,7 @@ first_different notes place (play ∷ plays) [] = None
 first_different notes place (play ∷ plays) (other ∷ others) =
     option_or
     (option_map (λ difference. record { number = place + 1; difference = difference })
-    (first_difference notes place play other))
+    (reported_difference notes place play other))
     (first_different notes (place + 1) plays others)
 
 -- all hands are the same; this is their number

@@ -5,7 +5,7 @@ use Rattle.std.specs.Prelude.{◌≡◌, ◌≢◌, ℕ, ◌-◌, ◌≤◌, Boo
 use Rattle.std.specs.Io.KnownBytes.{Appends}
 use Rattle.card_set.specs.Refusal.{WasRefused}
 use Rattle.convert_core.specs.Conversion.{ReadAsPlays}
-use Rattle.hand_differences.specs.FirstDifference.{first_difference}
+use Rattle.hand_differences.specs.FirstDifference.{reported_difference}
 use Rattle.hand_canon.specs.SameHands.{AllPaired, AreSameHand}
 use Rattle.hand_canon.specs.declared.trace.Play.{Play}
 use Rattle.poker_cli.specs.AnswerParts.{Answer, hand_numbered, most_input}
@@ -37,7 +37,7 @@ pub record IsFirstDifferent (notes : Bool) (plays others : List Play) (differs :
   pub other : Play
   pub here : hand_numbered plays differs.number ≡ Some play
   pub there : hand_numbered others differs.number ≡ Some other
-  pub first : first_difference notes (differs.number - 1) play other ≡ Some differs.difference
+  pub first : reported_difference notes (differs.number - 1) play other ≡ Some differs.difference
 
 -- the files are the same in all hands that both have
 abbrev pub AreSameSoFar : (notes : Bool) → List Play → List Play → Type 0

@@ -3,7 +3,10 @@ use Rattle.std.specs.Prelude.{◌≡◌, ℕ, ◌<◌, ◌≤◌, List, length, 
 use Rattle.acpc_game.specs.GameFile.{game_said}
 use Rattle.acpc_game.specs.GameView.{game_in}
 use Rattle.acpc_game.specs.declared.fault.AcpcFault.{AcpcFault}
+use Rattle.acpc_game.specs.declared.fault.AcpcFault.TheVariants as acpc_faults
 use Rattle.acpc_game.specs.declared.game.Game.{Game}
+use Rattle.host_io.specs.declared.shelf.ShelfFault.{ShelfFault}
+use Rattle.host_io.specs.declared.shelf.ShelfFault.TheVariants as shelf_faults
 use Rattle.poker_cli.specs.AcpcFaults.{bad_game_line}
 use Rattle.poker_cli.specs.AnswerParts.{Answer, most_input, refusal}
 use Rattle.poker_cli.specs.Limits.{excess_line}
@@ -51,6 +54,16 @@ HasNoGame file reasons.Missing = file ≡ None
 HasNoGame file (reasons.Lacking lack) = Lacks file lack
 HasNoGame file reasons.ShelfFault = Unit {0}
 HasNoGame file (reasons.Memory memory) = Unit {0}
+
+-- why there is no game if the shelf gives no answer
+abbrev pub no_game_from : ShelfFault → NoGameError
+no_game_from shelf_faults.Failed = reasons.ShelfFault
+no_game_from (shelf_faults.Memory memory) = reasons.Memory memory
+
+-- why there is no game if a file cannot be read as one
+abbrev pub no_game_in : AcpcFault → NoGameError
+no_game_in (acpc_faults.Memory memory) = reasons.Memory memory
+no_game_in fault = reasons.Lacking (lacks.Bad fault)
 
 -- the answer reports what is wrong with the game file
 abbrev pub IsGameFileErrorAnswer : GameFileError → Answer → Type 0

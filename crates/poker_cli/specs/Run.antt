@@ -3,7 +3,7 @@ use Rattle.std.specs.Prelude.{◌≡◌, ◌≢◌, ◌⊎◌, ℕ, ◌<◌, Boo
 use Rattle.std.specs.Io.KnownBytes.{Appends}
 use Rattle.acpc_game.specs.declared.game.Game.{Game}
 use Rattle.card_set.specs.Refusal.{WasRefused}
-use Rattle.command_words.specs.Command.{Command, file_of, names_log, reads_file, reads_input}
+use Rattle.command_words.specs.Command.{Command, file_of, has_input, has_other_file, is_about_logs}
 use Rattle.command_words.specs.Words.{Plain, Request, Under}
 use Rattle.host_io.specs.Faults.{Rose}
 use Rattle.host_io.specs.Bytes.{AppendsPart}
@@ -93,7 +93,7 @@ pub record Needs : Type 0 where
 -- what a command needs, with the name of a game file or without one
 abbrev pub needs : {N : Type 0} → (game : Option (List ℕ)) → Command N → Needs
 needs game command =
-    record { game = game; other = file_of command; input = reads_input command }
+    record { game = game; other = file_of command; input = has_input command }
 
 -- what a request needs
 abbrev pub needs_of : Request → Needs
@@ -125,8 +125,8 @@ ReadsHands request = (needs_of request).input ≡ true
 -- the request needs a file from the shelf: another file, or a game file, since one of its notations
 -- is that of logs
 abbrev pub AsksForFile : Request → Type 0
-AsksForFile (Plain command) = reads_file command ≡ true
-AsksForFile (Under name command) = names_log command ≡ true
+AsksForFile (Plain command) = has_other_file command ≡ true
+AsksForFile (Under name command) = is_about_logs command ≡ true
 
 -- the game file gives a game, if the shelf shows its files
 abbrev pub GivesSome : Option FilesByName → (name : List ℕ) → Type 0

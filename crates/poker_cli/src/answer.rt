@@ -14,7 +14,7 @@ use crate::each_answer::answer_with_each;
 use crate::equity::answer_with_equity;
 use crate::game::answer_with_game;
 use crate::judge::answer_with_verdicts;
-use crate::limits::{excess_line, limit_line};
+use crate::limits::{write_excess_line, write_limit_line};
 use crate::load::answer_to_load;
 use crate::options::answer_with_options;
 use crate::replay::answer_with_replay;
@@ -80,7 +80,7 @@ pub fn answer_with_text(alloc: Global, text: Result<String, PlaysFault>) -> Resu
     ensures { IfOk result (λ answer. IsTextAnswer text (answer_said answer)) }
 {
     match text {
-        Ok(text) => Ok(done_with(alloc, text)),
+        Ok(text) => Ok(done_with_text(alloc, text)),
         Err(fault) => answer_to_plays_fault(alloc, &fault),
     }
 }
@@ -124,12 +124,12 @@ fn answer_to_wrong(alloc: Global, fault: &FormatFault) -> Result<Answer, Memory>
 {
     match fault.excess() {
         Some(quantity) => {
-            let line = limit_line(alloc, quantity)?;
-            Ok(refusal(alloc, Status::Limit, line))
+            let line = write_limit_line(alloc, quantity)?;
+            Ok(answer_with_line(alloc, Status::Limit, line))
         }
         None => {
             let line = try_format!(in alloc; "bad input: {fault}\n")?;
-            Ok(refusal(alloc, Status::BadInput, line))
+            Ok(answer_with_line(alloc, Status::BadInput, line))
         }
     }
 }
@@ -139,7 +139,7 @@ pub fn answer_to_refused(alloc: Global, hand: u32, why: &Refusal) -> Result<Answ
     ensures { IfOk result (λ answer. answer_said answer ≡ definition.to_refusal hand why.now) }
 {
     let line = try_format!(in alloc; "refused: hand {hand}: {why}\n")?;
-    Ok(refusal(alloc, Status::Refused, line))
+    Ok(answer_with_line(alloc, Status::Refused, line))
 }
 
 /// The answer if a fact of the hand with this number cannot be written in the target notation.
@@ -147,34 +147,34 @@ pub fn answer_to_unspelled(alloc: Global, hand: u32, fact: Unspelled) -> Result<
     ensures { IfOk result (λ answer. answer_said answer ≡ definition.to_unspelled hand fact) }
 {
     let line = try_format!(in alloc; "unspelled: hand {hand}: {fact}\n")?;
-    Ok(refusal(alloc, Status::Unspelled, line))
+    Ok(answer_with_line(alloc, Status::Unspelled, line))
 }
 
 /// Hand number past the end of the input, which has `hands` hands.
-pub fn no_hand(alloc: Global, hand: u32, hands: usize) -> Result<Answer, Memory>
+pub fn answer_no_hand(alloc: Global, hand: u32, hands: usize) -> Result<Answer, Memory>
     ensures { IfOk result (λ answer. answer_said answer ≡ definition.no_hand hand hands) }
 {
     let line = try_format!(in alloc; "no such hand: {hand} of {hands}\n")?;
-    Ok(refusal(alloc, Status::NoSuch, line))
+    Ok(answer_with_line(alloc, Status::NoSuch, line))
 }
 
 /// The answer to an input that is too long.
 pub fn input_too_long(alloc: Global) -> Result<Answer, Memory>
     ensures { IfOk result (λ answer. answer_said answer ≡ definition.to_excess) }
 {
-    let line = excess_line(alloc, "input bytes", MOST_INPUT)?;
-    Ok(refusal(alloc, Status::Limit, line))
+    let line = write_excess_line(alloc, "input bytes", MOST_INPUT)?;
+    Ok(answer_with_line(alloc, Status::Limit, line))
 }
 
 /// A successful answer with a text as its output.
-pub fn done_with(alloc: Global, text: String) -> Answer
+pub fn done_with_text(alloc: Global, text: String) -> Answer
     ensures { answer_said result ≡ definition.done (string_bytes text) }
 {
-    done(alloc, text.into_bytes())
+    done_with_bytes(alloc, text.into_bytes())
 }
 
 /// A successful answer with these bytes as its output.
-pub fn done(alloc: Global, output: Vec<u8>) -> Answer
+pub fn done_with_bytes(alloc: Global, output: Vec<u8>) -> Answer
     ensures { answer_said result ≡ definition.done output.items }
 {
     Answer {
@@ -185,7 +185,7 @@ pub fn done(alloc: Global, output: Vec<u8>) -> Answer
 }
 
 /// An answer without output: a status and its diagnostic line.
-pub fn refusal(alloc: Global, status: Status, line: String) -> Answer
+pub fn answer_with_line(alloc: Global, status: Status, line: String) -> Answer
     ensures { answer_said result ≡ definition.refusal status (string_bytes line) }
 {
     Answer {

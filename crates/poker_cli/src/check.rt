@@ -55,11 +55,7 @@ fn check_text(alloc: Global, records: SoundRecords) -> Result<String, PlaysFault
     let lines = CheckLines {
         text: String::new(alloc),
     };
-    match take_plays(alloc, lines, records) {
-        Ok(mut lines) => match push_check_end(&mut lines.text, hands as u64) {
-            Ok(()) => Ok(lines.text),
-            Err(memory) => Err(PlaysFault::Memory(memory)),
-        },
-        Err(fault) => Err(fault),
-    }
+    let mut lines = take_plays(alloc, lines, records)?;
+    push_check_end(&mut lines.text, hands as u64)?;
+    Ok(lines.text)
 }

@@ -1,18 +1,17 @@
 //! Answers `compare`: whether the hands of the input are those of another file, or what is wrong
 //! with one of the two.
-ghost use Rattle.std.specs.Prelude.{◌≡◌, ◌+◌, All, length, option_map, IfOk};
+ghost use Rattle.std.specs.Prelude.{◌≡◌, ◌+◌, length, option_map, IfOk};
 ghost use Rattle.convert_core.specs.Formats.{HaveFault, SayRecords};
-ghost use Rattle.hand_canon.specs.Sound.{IsSound};
 ghost use Rattle.poker_cli.specs.AnswerParts.{IsAnswerTo};
-ghost use Rattle.poker_cli.specs.Compare.{IsComparedWith, compared, first_different as first_different_said, hand_difference_said, in_file as in_file_said, to_different as to_different_said, to_other_count as to_other_count_said, to_same as to_same_said};
+ghost use Rattle.poker_cli.specs.Compare.{IsComparedWith, compared, first_different, hand_difference_said, in_file, to_different, to_other_count, to_same};
 ghost use Rattle.poker_cli.specs.FaultAnswers.{answer_said};
 
-use crate::answer::{Answer, answer_to_fault, done_with, refusal};
+use crate::answer::{Answer, answer_to_fault, answer_with_line, done_with_text};
 use crate::status::Status;
 use card_set::{Memory, try_format};
 use convert_core::{Format, plays as plays_in};
-use hand_canon::{Play, SoundPlay};
-use hand_differences::{Difference, difference_text, first_difference};
+use hand_canon::SoundPlays;
+use hand_differences::{Difference, first_difference, write_difference};
 use std::alloc::Global;
 
 /// A hand that differs from the hand with the same number in the other file.
@@ -40,7 +39,7 @@ pub fn answer_with_comparison(
         (answer_said answer)) }
 {
     match plays_in(alloc, from, bytes) {
-        Ok(plays) => answer_beside(alloc, other, notes, file, &plays),
+        Ok(plays) => answer_beside(alloc, other, notes, file, &SoundPlays::new(&plays)),
         Err(fault) => answer_to_fault(alloc, &fault),
     }
 }
@@ -51,24 +50,23 @@ fn answer_beside(
     other: &Format,
     notes: bool,
     file: &[u8],
-    plays: &[Play],
+    plays: &SoundPlays<'_>,
 ) -> Result<Answer, Memory>
-    requires sound { All IsSound plays.now }
     ensures { IfOk result (λ answer.
         IsComparedWith other.now notes file.now plays.now (answer_said answer)) }
 {
     match plays_in(alloc, other, file) {
-        Ok(others) => answer_to_both(alloc, notes, plays, &others),
+        Ok(others) => answer_to_both(alloc, notes, plays, &SoundPlays::new(&others)),
         Err(fault) => {
             let answer = answer_to_fault(alloc, &fault)?;
-            in_file(alloc, answer)
+            report_in_file(alloc, answer)
         }
     }
 }
 
 // An answer that reports a fault inside the other file.
-fn in_file(alloc: Global, answer: Answer) -> Result<Answer, Memory>
-    ensures { IfOk result (λ named. answer_said named ≡ in_file_said (answer_said answer)) }
+fn report_in_file(alloc: Global, answer: Answer) -> Result<Answer, Memory>
+    ensures { IfOk result (λ named. answer_said named ≡ in_file (answer_said answer)) }
 {
     let Answer {
         status,
@@ -88,31 +86,33 @@ fn in_file(alloc: Global, answer: Answer) -> Result<Answer, Memory>
 fn answer_to_both(
     alloc: Global,
     notes: bool,
-    plays: &[Play],
-    others: &[Play],
+    plays: &SoundPlays<'_>,
+    others: &SoundPlays<'_>,
 ) -> Result<Answer, Memory>
-    requires sound { All IsSound plays.now }
-    requires others_sound { All IsSound others.now }
     ensures { IfOk result (λ answer. answer_said answer ≡ compared notes plays.now others.now) }
 {
-    match first_different(notes, plays, others) {
-        Some(differs) => to_different(alloc, differs),
-        None if plays.len() == others.len() => to_same(alloc, plays.len()),
-        None => to_other_count(alloc, plays.len(), others.len()),
+    match find_first_different(notes, plays, others) {
+        Some(differs) => answer_to_different(alloc, differs),
+        None if plays.len() == others.len() => answer_to_same(alloc, plays.len()),
+        None => answer_to_other_count(alloc, plays.len(), others.len()),
     }
 }
 
 // The first hand that differs, among those that both files have.
-fn first_different(notes: bool, plays: &[Play], others: &[Play]) -> Option<HandDifference>
-    requires sound { All IsSound plays.now }
-    requires others_sound { All IsSound others.now }
+fn find_first_different(
+    notes: bool,
+    plays: &SoundPlays<'_>,
+    others: &SoundPlays<'_>,
+) -> Option<HandDifference>
     ensures { option_map hand_difference_said result
-        ≡ first_different_said notes 0 plays.now others.now }
+        ≡ first_different notes 0 plays.now others.now }
 {
-    for (place, play) in plays.iter().enumerate() {
-        let other = others.get(place)?;
-        let play = SoundPlay::new(play);
-        let other = SoundPlay::new(other);
+    for place in 0..plays.len() {
+        if place >= others.len() {
+            return None;
+        }
+        let play = plays.get(place);
+        let other = others.get(place);
         if let Some(difference) = first_difference(notes, place, &play, &other) {
             let number = place + 1;
             return Some(HandDifference { number, difference });
@@ -122,29 +122,29 @@ fn first_different(notes: bool, plays: &[Play], others: &[Play]) -> Option<HandD
 }
 
 // The answer if all hands are the same; `hands` is their number.
-fn to_same(alloc: Global, hands: usize) -> Result<Answer, Memory>
-    ensures { IfOk result (λ answer. answer_said answer ≡ to_same_said hands) }
+fn answer_to_same(alloc: Global, hands: usize) -> Result<Answer, Memory>
+    ensures { IfOk result (λ answer. answer_said answer ≡ to_same hands) }
 {
     let text = try_format!(in alloc; "same hands: {hands}\n")?;
-    Ok(done_with(alloc, text))
+    Ok(done_with_text(alloc, text))
 }
 
 // The answer if a hand differs.
-fn to_different(alloc: Global, differs: HandDifference) -> Result<Answer, Memory>
+fn answer_to_different(alloc: Global, differs: HandDifference) -> Result<Answer, Memory>
     ensures { IfOk result (λ answer.
-        answer_said answer ≡ to_different_said (hand_difference_said differs)) }
+        answer_said answer ≡ to_different (hand_difference_said differs)) }
 {
     let number = differs.number;
-    let text = difference_text(alloc, differs.difference)?;
+    let text = write_difference(alloc, differs.difference)?;
     let text = text.as_str();
     let line = try_format!(in alloc; "differs: hand {number}: {text}\n")?;
-    Ok(refusal(alloc, Status::Differs, line))
+    Ok(answer_with_line(alloc, Status::Differs, line))
 }
 
 // The answer if the files have different numbers of hands.
-fn to_other_count(alloc: Global, hands: usize, others: usize) -> Result<Answer, Memory>
-    ensures { IfOk result (λ answer. answer_said answer ≡ to_other_count_said hands others) }
+fn answer_to_other_count(alloc: Global, hands: usize, others: usize) -> Result<Answer, Memory>
+    ensures { IfOk result (λ answer. answer_said answer ≡ to_other_count hands others) }
 {
     let line = try_format!(in alloc; "differs: hands {hands} and {others}\n")?;
-    Ok(refusal(alloc, Status::Differs, line))
+    Ok(answer_with_line(alloc, Status::Differs, line))
 }

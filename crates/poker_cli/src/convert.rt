@@ -5,7 +5,7 @@ ghost use Rattle.poker_cli.specs.AnswerParts.{IsAnswerTo};
 ghost use Rattle.poker_cli.specs.Convert.{IsConversion};
 ghost use Rattle.poker_cli.specs.FaultAnswers.{answer_said};
 
-use crate::answer::{Answer, answer_to_fault, done};
+use crate::answer::{Answer, answer_to_fault, done_with_bytes};
 use card_set::Memory;
 use convert_core::{Format, convert};
 use hand_canon::Keep;
@@ -23,7 +23,7 @@ pub fn answer_with_hands(
         (HaveFault from.now bytes.now) (IsConversion to.now keep) (answer_said answer)) }
 {
     match convert(alloc, from, to, keep, bytes) {
-        Ok(output) => Ok(done(alloc, output)),
+        Ok(output) => Ok(done_with_bytes(alloc, output)),
         Err(fault) => answer_to_fault(alloc, &fault),
     }
 }

@@ -4,7 +4,7 @@ ghost use Rattle.convert_core.specs.Formats.{HaveFault, SayRecords};
 ghost use Rattle.poker_cli.specs.Each.{AreReplayedEach, IsAnswerOfEach, IsReplyOfEach};
 ghost use Rattle.poker_cli.specs.FaultAnswers.{answer_said};
 
-use crate::answer::{Answer, answer_to_fault, done_with};
+use crate::answer::{Answer, answer_to_fault, done_with_text};
 use crate::each_options::{answer_with_point, answer_with_points};
 use crate::each_replay::replay_each;
 use card_set::Memory;
@@ -49,5 +49,5 @@ fn answer_with_replay(alloc: Global, records: &SoundRecords) -> Result<Answer, M
     ensures { IfOk result (λ answer. AreReplayedEach records.now (answer_said answer)) }
 {
     let text = replay_each(alloc, records)?;
-    Ok(done_with(alloc, text))
+    Ok(done_with_text(alloc, text))
 }

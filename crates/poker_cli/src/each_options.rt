@@ -4,9 +4,9 @@ ghost use Rattle.std.specs.Prelude.{IfOk, string_bytes};
 ghost use Rattle.poker_cli.specs.Each.{IsEveryPoint, IsPoint, IsTextOfPoints};
 ghost use Rattle.poker_cli.specs.FaultAnswers.{answer_said};
 
-use crate::answer::{Answer, done, done_with, no_hand};
+use crate::answer::{Answer, answer_no_hand, done_with_bytes, done_with_text};
 use crate::each_verdict::{outcome_of, push_refusal_line, verdict_on};
-use crate::options::no_event;
+use crate::options::answer_no_event;
 use card_set::Memory;
 use convert_core::{SoundRecord, SoundRecords};
 use hand_options::{options_at, options_text, push_every_point};
@@ -25,11 +25,11 @@ pub fn answer_with_points(
     let index = (hand as usize).saturating_sub(1);
     let count = records.len();
     if count <= index {
-        return no_hand(alloc, hand, count);
+        return answer_no_hand(alloc, hand, count);
     }
     let record = records.get(index);
     let text = text_of_points(alloc, hand, &record)?;
-    Ok(done_with(alloc, text))
+    Ok(done_with_text(alloc, text))
 }
 
 // The legal moves at every point of the hand with this number, and the verdict on it if it is
@@ -60,15 +60,15 @@ pub fn answer_with_point(
     let index = (hand as usize).saturating_sub(1);
     let count = records.len();
     if count <= index {
-        return no_hand(alloc, hand, count);
+        return answer_no_hand(alloc, hand, count);
     }
     let sound = records.get(index);
     let record = sound.record;
     let part = legal_part(alloc, &record.setup, &record.rules, &record.script)?;
     if part.events < events {
-        return no_event(alloc, hand, events, part.events as usize);
+        return answer_no_event(alloc, hand, events, part.events as usize);
     }
     let options = options_at(record, events);
     let text = options_text(alloc, hand, events, &options)?;
-    Ok(done(alloc, text))
+    Ok(done_with_bytes(alloc, text))
 }

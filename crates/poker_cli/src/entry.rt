@@ -2,7 +2,7 @@
 //! the diagnostic line.
 ghost use Rattle.std.specs.Prelude.{◌≡◌, ◌↔◌, [], map, true, false, None, Some, IfErr, IfOk, IfSome, IsErrOf, string_bytes};
 ghost use Rattle.card_set.specs.Refusal.{WasRefused};
-ghost use Rattle.command_words.specs.Command.{command_in, file_of, reads_file, reads_input};
+ghost use Rattle.command_words.specs.Command.{command_in, file_of, has_input, has_other_file};
 ghost use Rattle.command_words.specs.Requests.{log_command_in, request_in};
 ghost use Rattle.command_words.specs.Words.{request_said};
 ghost use Rattle.host_io.specs.Faults.{Rose};
@@ -14,7 +14,7 @@ ghost use Rattle.poker_cli.specs.FaultAnswers.{answer_said};
 
 use crate::answer::{self, Answer, MOST_INPUT};
 use crate::game_files::{NoGameError, fetch_game, game_file_answer};
-use crate::named_formats::{in_formats_under, in_plain_formats};
+use crate::named_formats::{to_formats_under, to_plain_formats};
 use crate::no_answer::NoAnswerError;
 use crate::other_file::{NoFileError, answer_to_long_file, fetch_file};
 use crate::status::Status;
@@ -158,7 +158,7 @@ fn reply<S: Source, H: Shelf>(
 {
     match request {
         Request::Plain { command, file } => {
-            reply_beside(alloc, in_plain_formats(command), file, input, shelf)
+            reply_beside(alloc, to_plain_formats(command), file, input, shelf)
         }
         Request::Under(log) => reply_under(alloc, log, input, shelf),
     }
@@ -185,12 +185,12 @@ fn reply_under<S: Source, H: Shelf>(
         (file_of (log_command_in log.entry)) shelf.old shelf.new }
     ensures without_file { Lacks (needs (Some log.entry.game.now) (log_command_in log.entry))
         (H.files shelf.old) → input.new ≡ input.old }
-    ensures without_input { reads_input (log_command_in log.entry) ≡ false
+    ensures without_input { has_input (log_command_in log.entry) ≡ false
         → input.new ≡ input.old }
 {
     match fetch_game(alloc, shelf, log.game) {
         Ok(game) => {
-            let command = in_formats_under(game, log.command);
+            let command = to_formats_under(game, log.command);
             reply_beside(alloc, command, log.file, input, shelf)
         }
         Err(NoGameError::Lacking(lack)) => Ok(game_file_answer(alloc, lack)?),
@@ -221,7 +221,7 @@ fn reply_beside<S: Source, H: Shelf>(
         (file_of (command_in name.now command)) shelf.old shelf.new }
     ensures without_file { Lacks (needs None (command_in name.now command)) (H.files shelf.old)
         → input.new ≡ input.old }
-    ensures without_input { reads_input (command_in name.now command) ≡ false
+    ensures without_input { has_input (command_in name.now command) ≡ false
         → input.new ≡ input.old }
 {
     if command.reads_file() {
@@ -239,7 +239,7 @@ fn reply_with_file<S: Source, H: Shelf>(
     input: &mut S,
     shelf: &mut H,
 ) -> Result<Answer, NoAnswerError>
-    requires { reads_file (command_in name.now command) ≡ true }
+    requires { has_other_file (command_in name.now command) ≡ true }
     ensures answer { IfOk result (λ answer. OfFile (H.files shelf.old) name.now (λ file.
         OfBytes (S.left input.old) (λ bytes.
         IsAnswerBeside (command_in name.now command) file bytes (answer_said answer)))) }
@@ -277,8 +277,8 @@ fn reply_with<S: Source>(
         → Rose (S.faults input.old) (S.faults input.new) }
     ensures read_alone { IfErr result (λ why. ComesFirst why → ⊥) }
     ensures reads { IsErrOf result NoAnswerError.ReadFault
-        → reads_input (command_in file.now command) ≡ true }
-    ensures without_input { reads_input (command_in file.now command) ≡ false
+        → has_input (command_in file.now command) ≡ true }
+    ensures without_input { has_input (command_in file.now command) ≡ false
         → input.new ≡ input.old }
 {
     if !command.reads_input() {

@@ -6,7 +6,7 @@ ghost use Rattle.poker_cli.specs.Equity.{IsEquityAt};
 ghost use Rattle.poker_cli.specs.AnswerParts.{IsAnswerTo};
 ghost use Rattle.poker_cli.specs.FaultAnswers.{answer_said};
 
-use crate::answer::{Answer, answer_to_fault, done, no_hand, refusal};
+use crate::answer::{Answer, answer_no_hand, answer_to_fault, answer_with_line, done_with_bytes};
 use crate::status::Status;
 use card_set::{Memory, try_format};
 use convert_core::{Format, plays};
@@ -43,31 +43,31 @@ fn equity_in_plays(
     let index = (hand as usize).saturating_sub(1);
     let count = plays.len();
     if count <= index {
-        return no_hand(alloc, hand, count);
+        return answer_no_hand(alloc, hand, count);
     }
     let play = plays.get(index);
     match equity_of(&play, street) {
         Ok(row) => {
             let text = equity_text(alloc, hand, street, play.play(), &row)?;
-            Ok(done(alloc, text))
+            Ok(done_with_bytes(alloc, text))
         }
-        Err(NoEquity::NoStreet) => no_street(alloc, hand, street),
-        Err(NoEquity::UnknownCards(seat)) => no_cards(alloc, hand, seat.number),
+        Err(NoEquity::NoStreet) => answer_no_street(alloc, hand, street),
+        Err(NoEquity::UnknownCards(seat)) => answer_no_cards(alloc, hand, seat.number),
     }
 }
 
 // No board is dealt on this street of the hand.
-fn no_street(alloc: Global, hand: u32, street: u8) -> Result<Answer, Memory>
+fn answer_no_street(alloc: Global, hand: u32, street: u8) -> Result<Answer, Memory>
     ensures { IfOk result (λ answer. answer_said answer ≡ in_equity.no_street hand street) }
 {
     let line = try_format!(in alloc; "no such street: hand {hand}: {street}\n")?;
-    Ok(refusal(alloc, Status::NoSuch, line))
+    Ok(answer_with_line(alloc, Status::NoSuch, line))
 }
 
 // A card of this seat stayed unknown in the hand.
-fn no_cards(alloc: Global, hand: u32, seat: u8) -> Result<Answer, Memory>
+fn answer_no_cards(alloc: Global, hand: u32, seat: u8) -> Result<Answer, Memory>
     ensures { IfOk result (λ answer. answer_said answer ≡ in_equity.no_cards hand seat) }
 {
     let line = try_format!(in alloc; "no such cards: hand {hand}: p{seat}\n")?;
-    Ok(refusal(alloc, Status::NoSuch, line))
+    Ok(answer_with_line(alloc, Status::NoSuch, line))
 }

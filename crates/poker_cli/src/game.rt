@@ -5,7 +5,7 @@ ghost use Rattle.poker_cli.specs.AnswerParts.{IsAnswerTo};
 ghost use Rattle.poker_cli.specs.Game.{IsGameReply};
 ghost use Rattle.poker_cli.specs.FaultAnswers.{answer_said};
 
-use crate::answer::{Answer, answer_to_fault, answer_to_unspelled, done};
+use crate::answer::{Answer, answer_to_fault, answer_to_unspelled, done_with_bytes};
 use acpc_format::game_of;
 use acpc_game::write_game;
 use card_set::Memory;
@@ -29,10 +29,10 @@ fn answer_with_first_game(alloc: Global, plays: &SoundPlays<'_>) -> Result<Answe
     ensures { IfOk result (λ answer. IsGameReply plays.now (answer_said answer)) }
 {
     let [play, ..] = plays.as_slice() else {
-        return Ok(done(alloc, Vec::new(alloc)));
+        return Ok(done_with_bytes(alloc, Vec::new(alloc)));
     };
     match game_of(play) {
-        Ok(game) => Ok(done(alloc, write_game(alloc, &game)?)),
+        Ok(game) => Ok(done_with_bytes(alloc, write_game(alloc, &game)?)),
         Err(fact) => answer_to_unspelled(alloc, 1, fact),
     }
 }

@@ -3,13 +3,13 @@ ghost use Rattle.std.specs.Prelude.{◌≡◌, ◌≤◌, List, ℕ, Option, IfE
 ghost use Rattle.host_io.specs.Faults.{Rose};
 ghost use Rattle.host_io.specs.Shelf.{IsAnswer};
 ghost use Rattle.poker_cli.specs.AnswerParts.{most_input};
-ghost use Rattle.poker_cli.specs.GameFiles.{GivesGame, HasNoGame, IsGameFileErrorAnswer};
-ghost use Rattle.poker_cli.specs.AcpcFaults.{bad_game_line as bad_game_line_said};
+ghost use Rattle.poker_cli.specs.GameFiles.{GivesGame, HasNoGame, IsGameFileErrorAnswer, no_game_from, no_game_in};
+ghost use Rattle.poker_cli.specs.AcpcFaults.{bad_game_line};
 ghost use Rattle.poker_cli.specs.Run.{OfFile};
 ghost use Rattle.poker_cli.specs.FaultAnswers.{answer_said};
 
-use crate::answer::{Answer, MOST_INPUT, refusal};
-use crate::limits::excess_line;
+use crate::answer::{Answer, MOST_INPUT, answer_with_line};
+use crate::limits::write_excess_line;
 use crate::status::Status;
 use acpc_game::{AcpcFault, Game, read_game};
 use card_set::{Memory, try_format};
@@ -33,6 +33,28 @@ pub enum NoGameError {
     Memory(Memory),
 }
 
+impl From<ShelfFault> for NoGameError {
+    ghost from_gives = { λ fault reason. reason ≡ no_game_from fault };
+
+    fn from(fault: ShelfFault) -> Self {
+        match fault {
+            ShelfFault::Failed => NoGameError::ShelfFault,
+            ShelfFault::Memory(memory) => NoGameError::Memory(memory),
+        }
+    }
+}
+
+impl From<AcpcFault> for NoGameError {
+    ghost from_gives = { λ fault reason. reason ≡ no_game_in fault };
+
+    fn from(fault: AcpcFault) -> Self {
+        match fault {
+            AcpcFault::Memory(memory) => NoGameError::Memory(memory),
+            fault => NoGameError::Lacking(GameFileError::Bad(fault)),
+        }
+    }
+}
+
 /// The game in the file of this name.
 pub fn fetch_game<H: Shelf>(alloc: Global, shelf: &mut H, name: &str) -> Result<Game, NoGameError>
     ensures game { IfOk result (λ game.
@@ -45,11 +67,8 @@ pub fn fetch_game<H: Shelf>(alloc: Global, shelf: &mut H, name: &str) -> Result<
     ensures unchanged { H.files shelf.new ≡ H.files shelf.old }
     ensures later { H.faults shelf.old ≤ H.faults shelf.new }
 {
-    match shelf.fetch(alloc, name, MOST_INPUT) {
-        Ok(fetched) => game_fetched(alloc, &fetched),
-        Err(ShelfFault::Failed) => Err(NoGameError::ShelfFault),
-        Err(ShelfFault::Memory(memory)) => Err(NoGameError::Memory(memory)),
-    }
+    let fetched = shelf.fetch(alloc, name, MOST_INPUT)?;
+    game_fetched(alloc, &fetched)
 }
 
 // The game in what a shelf answered, whichever file it answered with.
@@ -61,11 +80,7 @@ fn game_fetched(alloc: Global, fetched: &Fetched) -> Result<Game, NoGameError>
     ensures of_answer { IsErrOf result NoGameError.ShelfFault → ⊥ }
 {
     match fetched {
-        Fetched::Bytes(text) => match read_game(alloc, text) {
-            Ok(game) => Ok(game),
-            Err(AcpcFault::Memory(memory)) => Err(NoGameError::Memory(memory)),
-            Err(fault) => Err(NoGameError::Lacking(GameFileError::Bad(fault))),
-        },
+        Fetched::Bytes(text) => Ok(read_game(alloc, text)?),
         Fetched::Absent => Err(NoGameError::Missing),
         Fetched::TooLong => Err(NoGameError::Lacking(GameFileError::TooLong)),
     }
@@ -77,21 +92,21 @@ pub fn game_file_answer(alloc: Global, lack: GameFileError) -> Result<Answer, Me
 {
     match lack {
         GameFileError::TooLong => {
-            let line = excess_line(alloc, "game bytes", MOST_INPUT)?;
-            Ok(refusal(alloc, Status::Limit, line))
+            let line = write_excess_line(alloc, "game bytes", MOST_INPUT)?;
+            Ok(answer_with_line(alloc, Status::Limit, line))
         }
         GameFileError::Bad(fault) => {
-            let line = bad_game_line(alloc, &fault)?;
-            Ok(refusal(alloc, Status::BadGame, line))
+            let line = write_bad_game_line(alloc, &fault)?;
+            Ok(answer_with_line(alloc, Status::BadGame, line))
         }
     }
 }
 
 // The line of a fault in a game file.
-fn bad_game_line(alloc: Global, fault: &AcpcFault) -> Result<String, Memory>
-    ensures { IfOk result (λ line. string_bytes line ≡ bad_game_line_said fault.now) }
+fn write_bad_game_line(alloc: Global, fault: &AcpcFault) -> Result<String, Memory>
+    ensures { IfOk result (λ line. string_bytes line ≡ bad_game_line fault.now) }
 {
-    let line = fault.line();
+    let (line, _) = fault.location();
     let name = fault.name();
     try_format!(in alloc; "bad game: line {line}: {name}\n")
 }

@@ -51,23 +51,20 @@ impl<T: HandVisitor + Drop> VerdictVisitor for LegalPlays<T> {
         false
     }
 
-    fn keeps(&self) -> bool {
+    fn retains_plays(&self) -> bool {
         false
     }
 
-    fn take(
+    fn legal(
         &mut self,
         alloc: Global,
         place: HandIndex,
         play: &JudgedPlay<'_>,
     ) -> Result<(), Memory> {
-        match self.visitor.take_play(alloc, place, play) {
-            Ok(()) => Ok(()),
-            Err(memory) => Err(memory),
-        }
+        self.visitor.take_play(alloc, place, play)
     }
 
-    fn pass(&mut self, _: Global, _: HandIndex, _: &Refusal) -> Result<(), Memory> {
+    fn refused(&mut self, _: Global, _: HandIndex, _: &Refusal) -> Result<(), Memory> {
         Ok(())
     }
 }
@@ -87,8 +84,6 @@ pub fn take_plays<T: HandVisitor + Drop>(
     ensures refused { IfErr result (IsPlaysFaultOf records) }
 {
     let mut legal = LegalPlays { visitor };
-    match judge_all(alloc, &mut legal, records) {
-        Ok(_) => Ok(legal.visitor),
-        Err(fault) => Err(fault),
-    }
+    judge_all(alloc, &mut legal, records)?;
+    Ok(legal.visitor)
 }

@@ -4,10 +4,10 @@ ghost use Rattle.std.specs.Prelude.{IfOk, OnOk, Some, codes, false, slice_get, s
 ghost use Rattle.std.specs.Fmt.{decimal};
 ghost use Rattle.poker_cli.specs.Judge.{ArePrinted, IsJudgement, IsVerdictsText, begins_text, if_asked, verdicts_end};
 ghost use Rattle.convert_core.specs.FaultText.{refusal_text};
-ghost use Rattle.convert_core.specs.Formats.{HaveFault, SayRecords, first_lines};
+ghost use Rattle.convert_core.specs.Formats.{HaveFault, SayRecords, start_lines};
 ghost use Rattle.poker_cli.specs.FaultAnswers.{answer_said};
 
-use crate::answer::{Answer, answer_to_fault, done_with};
+use crate::answer::{Answer, answer_to_fault, done_with_text};
 use card_set::{Memory, TryWrite, try_write};
 use convert_core::{
     Format, HandIndex, JudgedPlay, Notation, PlaysFault, Refusal, SoundRecords, VerdictVisitor,
@@ -36,11 +36,11 @@ impl VerdictVisitor for VerdictLines {
         true
     }
 
-    fn keeps(&self) -> bool {
+    fn retains_plays(&self) -> bool {
         false
     }
 
-    fn take(&mut self, _: Global, place: HandIndex, _: &JudgedPlay<'_>) -> Result<(), Memory> {
+    fn legal(&mut self, _: Global, place: HandIndex, _: &JudgedPlay<'_>) -> Result<(), Memory> {
         let number = place.index + 1;
         let line = line_at(&self.lines, place.index);
         push_legal(&mut self.text, number, line)?;
@@ -48,7 +48,7 @@ impl VerdictVisitor for VerdictLines {
         Ok(())
     }
 
-    fn pass(&mut self, _: Global, place: HandIndex, why: &Refusal) -> Result<(), Memory> {
+    fn refused(&mut self, _: Global, place: HandIndex, why: &Refusal) -> Result<(), Memory> {
         let number = place.index + 1;
         let line = line_at(&self.lines, place.index);
         push_refused(&mut self.text, number, line, why)?;
@@ -138,14 +138,14 @@ pub fn answer_with_verdicts(
     bytes: &[u8],
 ) -> Result<Answer, Memory>
     ensures { IfOk result (λ answer. IsJudgement (SayRecords from.now bytes.now)
-        (HaveFault from.now bytes.now) (if_asked asked (first_lines from.now bytes.now))
+        (HaveFault from.now bytes.now) (if_asked asked (start_lines from.now bytes.now))
         (answer_said answer)) }
 {
     match read_records(alloc, from, bytes) {
         Ok(records) => {
             let lines = lines_if_asked(alloc, asked, from, bytes)?;
             let text = judge_text(alloc, lines, records)?;
-            Ok(done_with(alloc, text))
+            Ok(done_with_text(alloc, text))
         }
         Err(fault) => answer_to_fault(alloc, &fault),
     }
@@ -158,7 +158,7 @@ fn lines_if_asked(
     from: &Format,
     bytes: &[u8],
 ) -> Result<Vec<u64>, Memory>
-    ensures { IfOk result (λ lines. lines.items ≡ if_asked asked (first_lines from.now bytes.now)) }
+    ensures { IfOk result (λ lines. lines.items ≡ if_asked asked (start_lines from.now bytes.now)) }
 {
     if !asked {
         return Ok(Vec::new(alloc));

@@ -8,22 +8,22 @@ use play_event::{MOST_MOVES, MOST_OTHER_EVENTS};
 use std::alloc::Global;
 
 /// The line of a limit that the hands of a file pass.
-pub fn limit_line(alloc: Global, quantity: Quantity) -> Result<String, Memory>
+pub fn write_limit_line(alloc: Global, quantity: Quantity) -> Result<String, Memory>
     ensures { IfOk result (λ line. string_bytes line ≡ limits.limit_line quantity) }
 {
-    let most = most_of(quantity);
+    let most = find_limit(quantity);
     try_format!(in alloc; "limit: {quantity} {most}\n")
 }
 
 /// The line of a limit: what is counted, and the most of it that may be there.
-pub fn excess_line(alloc: Global, what: &str, most: usize) -> Result<String, Memory>
+pub fn write_excess_line(alloc: Global, what: &str, most: usize) -> Result<String, Memory>
     ensures { IfOk result (λ line. string_bytes line ≡ limits.excess_line what.now most) }
 {
     try_format!(in alloc; "limit: {what} {most}\n")
 }
 
 // The most of a quantity that a file may have.
-fn most_of(quantity: Quantity) -> usize
+fn find_limit(quantity: Quantity) -> usize
     ensures { result ≡ limits.most_of quantity }
 {
     match quantity {

@@ -7,7 +7,7 @@ use crate::answer::Answer;
 use crate::status::Status;
 use card_set::Memory;
 use command_words::HandCount;
-use hand_gen::{load, summary_text};
+use hand_gen::{load, write_summary};
 use std::alloc::Global;
 
 /// The answer with the summary of `hands` hands generated from a seed.
@@ -15,7 +15,7 @@ pub fn answer_to_load(alloc: Global, seed: u64, hands: HandCount) -> Result<Answ
     ensures { IfOk result (λ answer. IsSummed seed hands.number (answer_said answer)) }
 {
     let summary = load(alloc, seed, hands.number)?;
-    let text = summary_text(alloc, &summary)?;
+    let text = write_summary(alloc, &summary)?;
     Ok(Answer {
         status: Status::Done,
         output: text.into_bytes(),

@@ -9,33 +9,33 @@ use convert_core::Format;
 use ohh_members::Dialect;
 
 /// A command about notations that need no game.
-pub fn in_plain_formats(command: Command<PlainNotation>) -> Command<Format>
+pub fn to_plain_formats(command: Command<PlainNotation>) -> Command<Format>
     ensures { (file : List ℕ)
         → command_in file result ≡ definition.in_plain_formats (command_in file command) }
 {
-    command.map(plain_format)
+    command.map(to_plain_format)
 }
 
 /// A command, where logs are under a game.
-pub fn in_formats_under(game: Game, command: Command<NotationName>) -> Command<Format>
+pub fn to_formats_under(game: Game, command: Command<NotationName>) -> Command<Format>
     ensures { (file : List ℕ)
         → command_in file result ≡ definition.in_formats_under game (command_in file command) }
 {
-    command.map(|notation| format_under(game, notation))
+    command.map(|notation| to_format_under(game, notation))
 }
 
 // The notation of this name, with the game for logs.
-fn format_under(game: Game, notation: NotationName) -> Format
+fn to_format_under(game: Game, notation: NotationName) -> Format
     ensures { result ≡ definition.format_under game notation }
 {
     match notation {
-        NotationName::Plain(notation) => plain_format(notation),
+        NotationName::Plain(notation) => to_plain_format(notation),
         NotationName::Acpc => Format::Acpc(game),
     }
 }
 
 // The notation of this name, which needs no game.
-fn plain_format(notation: PlainNotation) -> Format
+fn to_plain_format(notation: PlainNotation) -> Format
     ensures { result ≡ definition.plain_format notation }
 {
     match notation {

@@ -6,7 +6,7 @@ ghost use Rattle.poker_cli.specs.Options.{AreOptionsAt};
 ghost use Rattle.poker_cli.specs.AnswerParts.{IsAnswerTo};
 ghost use Rattle.poker_cli.specs.FaultAnswers.{answer_said};
 
-use crate::answer::{Answer, answer_to_fault, done, no_hand, refusal};
+use crate::answer::{Answer, answer_no_hand, answer_to_fault, answer_with_line, done_with_bytes};
 use crate::status::Status;
 use card_set::{Memory, try_format};
 use convert_core::{Format, plays};
@@ -43,22 +43,22 @@ fn options_in_plays(
     let index = (hand as usize).saturating_sub(1);
     let count = plays.len();
     if count <= index {
-        return no_hand(alloc, hand, count);
+        return answer_no_hand(alloc, hand, count);
     }
     let play = plays.get(index);
     let all = play.play().hand.script.len();
     if all < events as usize {
-        return no_event(alloc, hand, events, all);
+        return answer_no_event(alloc, hand, events, all);
     }
     let options = options(&play, events);
     let text = options_text(alloc, hand, events, &options)?;
-    Ok(done(alloc, text))
+    Ok(done_with_bytes(alloc, text))
 }
 
 /// Event number past the end of the hand.
-pub fn no_event(alloc: Global, hand: u32, events: u32, all: usize) -> Result<Answer, Memory>
+pub fn answer_no_event(alloc: Global, hand: u32, events: u32, all: usize) -> Result<Answer, Memory>
     ensures { IfOk result (λ answer. answer_said answer ≡ in_options.no_event hand events all) }
 {
     let line = try_format!(in alloc; "no such event: hand {hand}: {events} of {all}\n")?;
-    Ok(refusal(alloc, Status::NoSuch, line))
+    Ok(answer_with_line(alloc, Status::NoSuch, line))
 }

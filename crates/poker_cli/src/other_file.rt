@@ -4,11 +4,11 @@ ghost use Rattle.host_io.specs.Faults.{Rose};
 ghost use Rattle.poker_cli.specs.AnswerParts.{most_input};
 ghost use Rattle.poker_cli.specs.Compare.{to_file_excess};
 ghost use Rattle.poker_cli.specs.FaultAnswers.{answer_said};
-ghost use Rattle.poker_cli.specs.OtherFile.{HasNoFile};
+ghost use Rattle.poker_cli.specs.OtherFile.{HasNoFile, no_file_from};
 ghost use Rattle.poker_cli.specs.Run.{OfFile};
 
-use crate::answer::{Answer, MOST_INPUT, refusal};
-use crate::limits::excess_line;
+use crate::answer::{Answer, MOST_INPUT, answer_with_line};
+use crate::limits::write_excess_line;
 use crate::status::Status;
 use card_set::Memory;
 use host_io::{Fetched, Shelf, ShelfFault};
@@ -25,6 +25,17 @@ pub enum NoFileError {
     Memory(Memory),
 }
 
+impl From<ShelfFault> for NoFileError {
+    ghost from_gives = { λ fault reason. reason ≡ no_file_from fault };
+
+    fn from(fault: ShelfFault) -> Self {
+        match fault {
+            ShelfFault::Failed => NoFileError::ShelfFault,
+            ShelfFault::Memory(memory) => NoFileError::Memory(memory),
+        }
+    }
+}
+
 /// The bytes of the file of this name.
 pub fn fetch_file<H: Shelf>(
     alloc: Global,
@@ -39,12 +50,10 @@ pub fn fetch_file<H: Shelf>(
         → Rose (H.faults shelf.old) (H.faults shelf.new) }
     ensures asked { H.Asked shelf.old shelf.new name.now }
 {
-    match shelf.fetch(alloc, name, MOST_INPUT) {
-        Ok(Fetched::Bytes(file)) => Ok(file),
-        Ok(Fetched::Absent) => Err(NoFileError::Missing),
-        Ok(Fetched::TooLong) => Err(NoFileError::TooLong),
-        Err(ShelfFault::Failed) => Err(NoFileError::ShelfFault),
-        Err(ShelfFault::Memory(memory)) => Err(NoFileError::Memory(memory)),
+    match shelf.fetch(alloc, name, MOST_INPUT)? {
+        Fetched::Bytes(file) => Ok(file),
+        Fetched::Absent => Err(NoFileError::Missing),
+        Fetched::TooLong => Err(NoFileError::TooLong),
     }
 }
 
@@ -52,6 +61,6 @@ pub fn fetch_file<H: Shelf>(
 pub fn answer_to_long_file(alloc: Global) -> Result<Answer, Memory>
     ensures { IfOk result (λ answer. answer_said answer ≡ to_file_excess) }
 {
-    let line = excess_line(alloc, "file bytes", MOST_INPUT)?;
-    Ok(refusal(alloc, Status::Limit, line))
+    let line = write_excess_line(alloc, "file bytes", MOST_INPUT)?;
+    Ok(answer_with_line(alloc, Status::Limit, line))
 }

@@ -58,8 +58,6 @@ fn replay_text(alloc: Global, records: SoundRecords) -> Result<String, PlaysFaul
     let lines = ReplayLines {
         text: String::new(alloc),
     };
-    match take_plays(alloc, lines, records) {
-        Ok(lines) => Ok(lines.text),
-        Err(fault) => Err(fault),
-    }
+    let lines = take_plays(alloc, lines, records)?;
+    Ok(lines.text)
 }

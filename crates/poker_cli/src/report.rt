@@ -45,15 +45,6 @@ fn report_of(alloc: Global, records: SoundRecords) -> Result<String, PlaysFault>
     ensures said { IfOk result (λ text. IsTextOf report_said records (string_bytes text)) }
     ensures refused { IfErr result (IsPlaysFaultOf records) }
 {
-    let report = match OpenReport::new(alloc) {
-        Ok(report) => report,
-        Err(memory) => return Err(PlaysFault::Memory(memory)),
-    };
-    match take_plays(alloc, report, records) {
-        Ok(report) => match report.text(alloc) {
-            Ok(text) => Ok(text),
-            Err(memory) => Err(PlaysFault::Memory(memory)),
-        },
-        Err(fault) => Err(fault),
-    }
+    let report = take_plays(alloc, OpenReport::new(alloc)?, records)?;
+    Ok(report.text(alloc)?)
 }

@@ -50,11 +50,6 @@ fn session_of(alloc: Global, records: SoundRecords) -> Result<String, PlaysFault
         IsTextOf (λ plays. session_printed (session_said plays)) records (string_bytes text)) }
     ensures refused { IfErr result (IsPlaysFaultOf records) }
 {
-    match take_plays(alloc, OpenSession::new(alloc), records) {
-        Ok(session) => match session_text(alloc, &session.close()) {
-            Ok(text) => Ok(text),
-            Err(memory) => Err(PlaysFault::Memory(memory)),
-        },
-        Err(fault) => Err(fault),
-    }
+    let session = take_plays(alloc, OpenSession::new(alloc), records)?;
+    Ok(session_text(alloc, &session.close())?)
 }

@@ -5,20 +5,22 @@ ghost use Rattle.acpc_view.specs.View.{views_text};
 ghost use Rattle.convert_core.specs.Formats.{HaveFault, SayRecords};
 ghost use Rattle.convert_core.specs.Judged.{IsPlaysFaultOf};
 ghost use Rattle.hand_canon.specs.declared.trace.Play.{Play as AnyPlay};
-ghost use Rattle.poker_cli.specs.AnswerParts.{IsAnswerTo, done as done_said};
-ghost use Rattle.poker_cli.specs.Views.{AreMessages, AreSeen, AreViews, AreViewsOf, most_view_bytes, no_seat as no_seat_said};
+ghost use Rattle.poker_cli.specs.AnswerParts.{IsAnswerTo, done};
+ghost use Rattle.poker_cli.specs.Views.{AreMessages, AreSeen, AreViews, AreViewsOf, most_view_bytes, no_seat};
 ghost use Rattle.poker_cli.specs.FaultAnswers.{answer_said};
 
-use crate::answer::{Answer, answer_to_fault, answer_to_refused, done, refusal};
+use crate::answer::{
+    Answer, answer_to_fault, answer_to_refused, answer_with_line, done_with_bytes,
+};
 use crate::hand_visitor::{HandVisitor, take_plays};
-use crate::limits::excess_line;
+use crate::limits::write_excess_line;
 use crate::status::Status;
 use acpc_game::Game;
 use acpc_view::{views, views_len};
 use card_set::{Memory, TryExtend, try_format};
 use chip_ledger::Seat;
 use convert_core::{Format, HandIndex, JudgedPlay, PlaysFault, SoundRecords, plays, read_records};
-use hand_canon::Play;
+use hand_canon::{Play, SoundPlay};
 use std::alloc::Global;
 
 // The most bytes of views.
@@ -78,7 +80,7 @@ pub fn answer_with_messages(
 // The answer to hands without messages.
 fn answer_without_messages(alloc: Global, from: &Format, bytes: &[u8]) -> Result<Answer, Memory>
     ensures { IfOk result (λ answer. IsAnswerTo (SayRecords from.now bytes.now)
-        (HaveFault from.now bytes.now) (λ plays shown. shown ≡ done_said []) (answer_said answer)) }
+        (HaveFault from.now bytes.now) (λ plays shown. shown ≡ done []) (answer_said answer)) }
 {
     match plays(alloc, from, bytes) {
         Ok(plays) => no_messages(alloc, &plays),
@@ -88,9 +90,9 @@ fn answer_without_messages(alloc: Global, from: &Format, bytes: &[u8]) -> Result
 
 // The answer to hands without messages, from their plays.
 fn no_messages(alloc: Global, _: &[Play]) -> Result<Answer, Memory>
-    ensures { IfOk result (λ answer. answer_said answer ≡ done_said []) }
+    ensures { IfOk result (λ answer. answer_said answer ≡ done []) }
 {
-    Ok(done(alloc, Vec::new(alloc)))
+    Ok(done_with_bytes(alloc, Vec::new(alloc)))
 }
 
 // The answer with what a seat saw of the hands in the bytes, read as logs of a game: one line
@@ -131,13 +133,8 @@ fn views_of(
         lines: Vec::new(alloc),
         kept: has_seat(game, seat),
     };
-    match take_plays(alloc, seen, records) {
-        Ok(seen) => match answer_with_seen(alloc, seen) {
-            Ok(answer) => Ok(answer),
-            Err(memory) => Err(PlaysFault::Memory(memory)),
-        },
-        Err(fault) => Err(fault),
-    }
+    let seen = take_plays(alloc, seen, records)?;
+    Ok(answer_with_seen(alloc, seen)?)
 }
 
 // Whether the seat is one of the game's seats.
@@ -155,13 +152,13 @@ fn answer_with_seen(alloc: Global, seen: SeenLines) -> Result<Answer, Memory>
 {
     let seats = seen.game.stacks.seats;
     if seats < seen.seat.number {
-        return no_seat(alloc, seen.seat, seats);
+        return answer_no_seat(alloc, seen.seat, seats);
     }
     if !seen.kept {
-        let line = excess_line(alloc, "view bytes", MOST_VIEW_BYTES)?;
-        return Ok(refusal(alloc, Status::Limit, line));
+        let line = write_excess_line(alloc, "view bytes", MOST_VIEW_BYTES)?;
+        return Ok(answer_with_line(alloc, Status::Limit, line));
     }
-    Ok(done(alloc, seen.lines))
+    Ok(done_with_bytes(alloc, seen.lines))
 }
 
 // Whether the lines of one more hand fit within the limit after these. They are counted before any
@@ -180,7 +177,7 @@ fn has_room(
     ensures over { result ≡ false → most_view_bytes < length lines.now.items
         + length (views_text game.now.no_limit seat.number place.index play.now) }
 {
-    let len = views_len(game, play.play(), place.index as u32, seat);
+    let len = views_len(game, &SoundPlay::new(play.play()), place.index as u32, seat);
     len <= (MOST_VIEW_BYTES - lines.len()) as u64
 }
 
@@ -196,16 +193,17 @@ fn push_views(
     ensures { OnOk result (lines.new.items ≡ lines.old.items
         ++ views_text game.now.no_limit seat.number place.index play.now) }
 {
-    let seen = views(alloc, game, play.play(), place.index as u32, seat)?;
+    let play = SoundPlay::new(play.play());
+    let seen = views(alloc, game, &play, place.index as u32, seat)?;
     lines.try_extend_from_slice(&seen)?;
     Ok(())
 }
 
 // Seat number above the number of players.
-fn no_seat(alloc: Global, seat: Seat, seats: u8) -> Result<Answer, Memory>
-    ensures { IfOk result (λ answer. answer_said answer ≡ no_seat_said seat.number seats) }
+fn answer_no_seat(alloc: Global, seat: Seat, seats: u8) -> Result<Answer, Memory>
+    ensures { IfOk result (λ answer. answer_said answer ≡ no_seat seat.number seats) }
 {
     let seat = seat.number;
     let line = try_format!(in alloc; "no such seat: {seat} of {seats}\n")?;
-    Ok(refusal(alloc, Status::NoSuch, line))
+    Ok(answer_with_line(alloc, Status::NoSuch, line))
 }

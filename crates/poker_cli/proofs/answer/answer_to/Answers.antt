@@ -5,7 +5,7 @@ use Rattle.card_set.specs.declared.memory.Memory.{Memory}
 use Rattle.command_words.specs.Command as commands
 use Rattle.command_words.specs.Command.{Command, command_in, input_of}
 use Rattle.command_words.specs.declared.command.Command as made_command
-use Rattle.convert_core.specs.Formats.{HaveFault, SayRecords, first_lines}
+use Rattle.convert_core.specs.Formats.{HaveFault, SayRecords, start_lines}
 use Rattle.convert_core.specs.declared.format.Format.{Format}
 use Rattle.poker_cli.specs.Answer as answers
 use Rattle.poker_cli.specs.Answer.{IsAnswer, IsAnswerBy, IsAnswerOf}
@@ -17,7 +17,7 @@ use Rattle.poker_cli.proofs.answer.answer_to.Goals as goal
 -- the answer to what is read is the answer to the command
 by_reader : (command : Command Format) (reader : Format) (bytes : List ℕ) (result : Result made.Answer Memory) → input_of command ≡ Some reader
     → length bytes ≤ most_input
-    → IfOk result (λ answer. IsAnswerOf command (SayRecords reader bytes) (HaveFault reader bytes) (first_lines reader bytes) (answer_said answer))
+    → IfOk result (λ answer. IsAnswerOf command (SayRecords reader bytes) (HaveFault reader bytes) (start_lines reader bytes) (answer_said answer))
     → IfOk result (λ answer. IsAnswer command bytes (answer_said answer))
 by_reader command reader bytes result input few is =
     IfOk-weaker result _ _

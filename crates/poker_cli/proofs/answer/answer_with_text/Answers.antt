@@ -7,7 +7,7 @@ use Rattle.poker_cli.proofs.answer.answer_with_text.Goals as goal
 
 pub returns-in-Ok : goal.returns-in-Ok
 returns-in-Ok c =
-    subst (λ (text : Result (String Global) PlaysFault). IsTextAnswer text (answer_said c.done_with.result)) (sym c.in-Ok.is) c.done_with.ensures
+    subst (λ (text : Result (String Global) PlaysFault). IsTextAnswer text (answer_said c.done_with_text.result)) (sym c.in-Ok.is) c.done_with_text.ensures
 
 pub returns-in-Err : goal.returns-in-Err
 returns-in-Err c =

@@ -1,5 +1,5 @@
 -- The plays of the input are compared, or the answer says why there are none.
-use Rattle.std.proofs.Common.{List, subst}
+use Rattle.std.proofs.Common.{List, ◌∙◌, subst}
 use Rattle.std.proofs.lemmas.Result.{IfOk-weaker}
 use Rattle.hand_canon.specs.declared.trace.Play.{Play}
 use Rattle.poker_cli.specs.AnswerParts as parts
@@ -12,7 +12,7 @@ pub returns-in-Ok : goal.returns-in-Ok
 returns-in-Ok c =
     IfOk-weaker c.answer_beside.result _ _
     (λ answer is. parts.Played c.in-Ok.plays.items c.in-Ok.ensures.plays (answer_said answer)
-    (subst (λ (plays : List Play). IsComparedWith c.args.other.now c.args.notes c.args.file.now plays (answer_said answer)) c.deref.ensures.value is))
+    (subst (λ (plays : List Play). IsComparedWith c.args.other.now c.args.notes c.args.file.now plays (answer_said answer)) (c.new.ensures ∙ c.deref.ensures.value) is))
     c.answer_beside.ensures
 
 pub returns-in-Err : goal.returns-in-Err

@@ -8,7 +8,7 @@ use Rattle.poker_cli.proofs.convert.answer_with_hands.Goals as goal
 
 pub returns-in-Ok : goal.returns-in-Ok
 returns-in-Ok c =
-    answer_converted _ _ _ _ _ (answer_said c.done.result) c.in-Ok.output.items c.in-Ok.ensures c.done.ensures
+    answer_converted _ _ _ _ _ (answer_said c.done_with_bytes.result) c.in-Ok.output.items c.in-Ok.ensures c.done_with_bytes.ensures
 
 pub returns-in-Err : goal.returns-in-Err
 returns-in-Err c =

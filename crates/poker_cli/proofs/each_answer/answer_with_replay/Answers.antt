@@ -6,5 +6,5 @@ use Rattle.poker_cli.proofs.each_answer.answer_with_replay.Goals as goal
 
 pub returns : goal.returns
 returns c =
-    subst (AreReplayedEach c.args.records.now) (sym c.done_with.ensures)
+    subst (AreReplayedEach c.args.records.now) (sym c.done_with_text.ensures)
     (each.ReplayedEach (string_bytes c.in_ok-text.text) c.in_ok-text.ensures)

@@ -13,10 +13,10 @@ pub returns-then-count-index : goal.returns-then-count-index
 returns-then-count-index c =
     let records = c.args.records.now in
     let beyond : length records ≤ c.saturating_sub-index.result = omega (arith, c.if-count-index.true, c.len-count.ensures.count) in
-    IfOk-weaker c.no_hand.result _ _
+    IfOk-weaker c.answer_no_hand.result _ _
     (λ answer shown. subst (IsPoint c.args.hand c.args.events records) (sym (shown ∙ ap (no_hand c.args.hand) c.len-count.ensures.count))
     (each.NoHandThere (not_numbered records c.args.hand c.saturating_sub-index.result c.saturating_sub-index.ensures beyond)))
-    c.no_hand.ensures
+    c.answer_no_hand.ensures
 
 pub returns-then-part-events : goal.returns-then-part-events
 returns-then-part-events c =
@@ -24,10 +24,10 @@ returns-then-part-events c =
     let hand = c.get-sound.result.record.now in
     let here = numbered records c.args.hand c.saturating_sub-index.result hand c.saturating_sub-index.ensures c.get-sound.ensures in
     let past : c.in_ok-part.part.events < c.args.events = omega (arith, c.if-part-events.true) in
-    IfOk-weaker c.no_event.result _ _
+    IfOk-weaker c.answer_no_event.result _ _
     (λ answer shown. subst (IsPoint c.args.hand c.args.events records) (sym shown)
     (each.PastLegal hand here c.in_ok-part.part.events c.in_ok-part.ensures.beginning past))
-    c.no_event.ensures
+    c.answer_no_event.ensures
 
 pub options_at-options-requires-clause-there : goal.options_at-options-requires-clause-there
 options_at-options-requires-clause-there c =
@@ -43,5 +43,5 @@ returns c =
     let hand = c.get-sound.result.record.now in
     let here = numbered records c.args.hand c.saturating_sub-index.result hand c.saturating_sub-index.ensures c.get-sound.ensures in
     let within : c.args.events ≤ c.in_ok-part.part.events = omega (arith, c.if-part-events.false) in
-    subst (IsPoint c.args.hand c.args.events records) (sym (c.done.ensures ∙ ap done c.in_ok-text.ensures))
+    subst (IsPoint c.args.hand c.args.events records) (sym (c.done_with_bytes.ensures ∙ ap done c.in_ok-text.ensures))
     (each.AtPoint hand here c.in_ok-part.part.events c.in_ok-part.ensures.beginning within c.options_at-options.result c.options_at-options.ensures.legal)

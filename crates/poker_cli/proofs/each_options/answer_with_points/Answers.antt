@@ -11,14 +11,14 @@ pub returns-then-count-index : goal.returns-then-count-index
 returns-then-count-index c =
     let records = c.args.records.now in
     let beyond : length records ≤ c.saturating_sub-index.result = omega (arith, c.if-count-index.true, c.len-count.ensures.count) in
-    IfOk-weaker c.no_hand.result _ _
+    IfOk-weaker c.answer_no_hand.result _ _
     (λ answer shown. subst (IsEveryPoint c.args.hand records) (sym (shown ∙ ap (no_hand c.args.hand) c.len-count.ensures.count))
     (each.NoSuchHand (not_numbered records c.args.hand c.saturating_sub-index.result c.saturating_sub-index.ensures beyond)))
-    c.no_hand.ensures
+    c.answer_no_hand.ensures
 
 pub returns : goal.returns
 returns c =
     let records = c.args.records.now in
     let here = numbered records c.args.hand c.saturating_sub-index.result c.get-record.result.record.now c.saturating_sub-index.ensures c.get-record.ensures in
-    subst (IsEveryPoint c.args.hand records) (sym c.done_with.ensures)
+    subst (IsEveryPoint c.args.hand records) (sym c.done_with_text.ensures)
     (each.AtPoints c.get-record.result.record.now here (string_bytes c.in_ok-text.text) c.in_ok-text.ensures)

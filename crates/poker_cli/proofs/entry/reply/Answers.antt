@@ -16,7 +16,7 @@ returns-in-Plain-clause-answer g c =
     (λ files bytes. IsAnswerIn (request_in request) files bytes (answer_said answer))))
     (sym c.in-Plain.is)
     (plain_answer (g.H.Shelf.files c.args.shelf.now) (g.S.Source.left c.args.input.now) (command_in c.in-Plain.file.now c.in-Plain.command) _ c.reply_beside.result
-    (c.in_plain_formats.ensures c.in-Plain.file.now) c.reply_beside.ensures.answer)
+    (c.to_plain_formats.ensures c.in-Plain.file.now) c.reply_beside.ensures.answer)
 
 pub returns-in-Under-clause-answer : goal.returns-in-Under-clause-answer
 returns-in-Under-clause-answer g c =

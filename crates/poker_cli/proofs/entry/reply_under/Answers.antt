@@ -13,25 +13,25 @@ use Rattle.poker_cli.proofs.entry.reply_under.Goals as goal
 pub returns-in-Ok-clause-answer : goal.returns-in-Ok-clause-answer
 returns-in-Ok-clause-answer g c =
     under_answer (g.H.Shelf.files c.args.shelf.now) (g.H.Shelf.files c.fetch_game.new.shelf) (g.S.Source.left c.args.input.now) c.args.log.game.now
-    (log_command_in c.args.log) _ c.in-Ok.game c.in-Ok.ensures.unchanged (c.in_formats_under-command.ensures c.args.log.file.now) c.in-Ok.ensures.game
+    (log_command_in c.args.log) _ c.in-Ok.game c.in-Ok.ensures.unchanged (c.to_formats_under-command.ensures c.args.log.file.now) c.in-Ok.ensures.game
     c.reply_beside.result c.reply_beside.ensures.answer
 
 pub returns-in-Ok-clause-none : goal.returns-in-Ok-clause-none
 returns-in-Ok-clause-none g c =
     under_none (g.H.Shelf.files c.args.shelf.now) (g.H.Shelf.files c.fetch_game.new.shelf) (g.S.Source.left c.args.input.now) c.args.log.game.now
-    (log_command_in c.args.log) _ c.in-Ok.game c.in-Ok.ensures.unchanged (c.in_formats_under-command.ensures c.args.log.file.now) c.in-Ok.ensures.game
+    (log_command_in c.args.log) _ c.in-Ok.game c.in-Ok.ensures.unchanged (c.to_formats_under-command.ensures c.args.log.file.now) c.in-Ok.ensures.game
     c.reply_beside.result c.reply_beside.ensures.none
 
 pub returns-in-Ok-clause-asks : goal.returns-in-Ok-clause-asks
 returns-in-Ok-clause-asks g c =
     under_asks (g.H.Shelf.files c.args.shelf.now) (g.H.Shelf.files c.fetch_game.new.shelf) (g.S.Source.left c.args.input.now) c.args.log.game.now
-    (log_command_in c.args.log) _ c.in-Ok.game c.in-Ok.ensures.unchanged (c.in_formats_under-command.ensures c.args.log.file.now) c.in-Ok.ensures.game
+    (log_command_in c.args.log) _ c.in-Ok.game c.in-Ok.ensures.unchanged (c.to_formats_under-command.ensures c.args.log.file.now) c.in-Ok.ensures.game
     g.H.Shelf.Asked c.args.shelf.now c.fetch_game.new.shelf c.reply_beside.new.shelf c.in-Ok.ensures.asked c.reply_beside.ensures.asks
 
 pub returns-in-Ok-clause-without_file : goal.returns-in-Ok-clause-without_file
 returns-in-Ok-clause-without_file g c =
     under_lacks (g.H.Shelf.files c.args.shelf.now) (g.H.Shelf.files c.fetch_game.new.shelf) (g.S.Source.left c.args.input.now) c.args.log.game.now
-    (log_command_in c.args.log) _ c.in-Ok.game c.in-Ok.ensures.unchanged (c.in_formats_under-command.ensures c.args.log.file.now) c.in-Ok.ensures.game
+    (log_command_in c.args.log) _ c.in-Ok.game c.in-Ok.ensures.unchanged (c.to_formats_under-command.ensures c.args.log.file.now) c.in-Ok.ensures.game
     (c.reply_beside.new.input ≡ c.args.input.now) c.reply_beside.ensures.without_file
 
 pub returns-in_ok-game_file_answer-in-Err-Lacking-clause-answer : goal.returns-in_ok-game_file_answer-in-Err-Lacking-clause-answer

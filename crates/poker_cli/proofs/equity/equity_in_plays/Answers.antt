@@ -16,17 +16,17 @@ pub returns-then-count-index : goal.returns-then-count-index
 returns-then-count-index c =
     let plays = c.args.plays.now in
     let beyond : length plays ≤ c.saturating_sub-index.result = omega (arith, c.if-count-index.true, c.len-count.ensures) in
-    IfOk-weaker c.no_hand.result _ _
+    IfOk-weaker c.answer_no_hand.result _ _
     (λ answer shown. subst (IsEquityAt c.args.hand c.args.street plays) (sym (shown ∙ ap (no_hand c.args.hand) c.len-count.ensures))
     (in_equity.NoneNumbered (not_found plays c.args.hand c.saturating_sub-index.result c.saturating_sub-index.ensures beyond)))
-    c.no_hand.ensures
+    c.answer_no_hand.ensures
 
 pub returns-in_ok-text-in-Ok : goal.returns-in_ok-text-in-Ok
 returns-in_ok-text-in-Ok c =
     let plays = c.args.plays.now in
     let play = c.get-play.result in
     let here = found plays c.args.hand c.saturating_sub-index.result play c.saturating_sub-index.ensures c.get-play.ensures in
-    subst (IsEquityAt c.args.hand c.args.street plays) (sym (c.done.ensures ∙ ap done (c.in_ok-text-in-Ok.ensures ∙ ap (λ (play : Play). equity_said c.args.hand c.args.street play.trace c.in-Ok.row) c.play.ensures.same)))
+    subst (IsEquityAt c.args.hand c.args.street plays) (sym (c.done_with_bytes.ensures ∙ ap done (c.in_ok-text-in-Ok.ensures ∙ ap (λ (play : Play). equity_said c.args.hand c.args.street play.trace c.in-Ok.row) c.play.ensures.same)))
     (in_equity.Counted play here c.in-Ok.row c.in-Ok.ensures.equity)
 
 pub returns-in-Err-NoStreet : goal.returns-in-Err-NoStreet
@@ -35,9 +35,9 @@ returns-in-Err-NoStreet c =
     let play = c.get-play.result in
     let here = found plays c.args.hand c.saturating_sub-index.result play c.saturating_sub-index.ensures c.get-play.ensures in
     let lacks = subst (λ (why : NoEquity). HasNoEquity play.trace c.args.street why) c.in-Err-NoStreet.field-0-is c.in-Err-NoStreet.ensures.refused in
-    IfOk-weaker c.no_street.result _ _
+    IfOk-weaker c.answer_no_street.result _ _
     (λ answer shown. subst (IsEquityAt c.args.hand c.args.street plays) (sym shown) (in_equity.NoBoard play here lacks))
-    c.no_street.ensures
+    c.answer_no_street.ensures
 
 pub returns-in-Err-UnknownCards : goal.returns-in-Err-UnknownCards
 returns-in-Err-UnknownCards c =
@@ -45,6 +45,6 @@ returns-in-Err-UnknownCards c =
     let play = c.get-play.result in
     let here = found plays c.args.hand c.saturating_sub-index.result play c.saturating_sub-index.ensures c.get-play.ensures in
     let lacks = subst (λ (why : NoEquity). HasNoEquity play.trace c.args.street why) c.in-Err-UnknownCards.field-0-is c.in-Err-UnknownCards.ensures.refused in
-    IfOk-weaker c.no_cards.result _ _
+    IfOk-weaker c.answer_no_cards.result _ _
     (λ answer shown. subst (IsEquityAt c.args.hand c.args.street plays) (sym (shown ∙ ap (no_cards c.args.hand) (ap (λ (seat : Seat). seat.number) c.in-Err-UnknownCards.seat-is))) (in_equity.NoCards play here c.in-Err-UnknownCards.seat lacks))
-    c.no_cards.ensures
+    c.answer_no_cards.ensures

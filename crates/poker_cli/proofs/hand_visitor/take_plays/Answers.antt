@@ -14,7 +14,7 @@ pub judge_all-requires : goal.judge_all-requires
 judge_all-requires g c =
     subst (λ (plays : List Play). g.T.HandVisitor.TookPlays c.args.visitor c.args.visitor plays) no_plays c.requires
 
-pub returns-in-Ok-clause-taken : goal.returns-in-Ok-clause-taken
-returns-in-Ok-clause-taken g c =
-    let taken = c.in-Ok.ensures.taken in
+pub returns-clause-taken : goal.returns-clause-taken
+returns-clause-taken g c =
+    let taken = c.in_ok-judge_all.ensures.taken in
     record { plays = legal_plays taken.verdicts; are = plays_are _ _ _ _ _ taken; took = taken.took }

@@ -3,7 +3,7 @@ use Rattle.std.proofs.Common.{ℕ, List, ap, subst, sym, ◌∙◌}
 use Rattle.std.proofs.lemmas.Result.{IfOk-weaker}
 use Rattle.poker_cli.specs.AnswerParts.{done}
 use Rattle.poker_cli.specs.Judge as answers
-use Rattle.convert_core.specs.Formats.{HaveFault, SayRecords, first_lines}
+use Rattle.convert_core.specs.Formats.{HaveFault, SayRecords, start_lines}
 use Rattle.poker_cli.specs.FaultAnswers.{answer_said}
 use Rattle.poker_cli.specs.Judge.{IsJudgement, if_asked, verdicts_said}
 use Rattle.poker_cli.proofs.Answering.{not_judged}
@@ -14,8 +14,8 @@ returns-in_ok-text-in-Ok c =
     let judged = c.in_ok-text-in-Ok.ensures in
     subst
     (IsJudgement (SayRecords c.args.from.now c.args.bytes.now) (HaveFault c.args.from.now c.args.bytes.now)
-    (if_asked c.args.asked (first_lines c.args.from.now c.args.bytes.now)))
-    (sym (c.done_with.ensures
+    (if_asked c.args.asked (start_lines c.args.from.now c.args.bytes.now)))
+    (sym (c.done_with_text.ensures
     ∙ ap done (judged.said ∙ ap (λ (lines : List ℕ). verdicts_said lines judged.verdicts) c.in_ok-lines-in-Ok.ensures)))
     (answers.Judged c.in-Ok.records c.in-Ok.ensures.said judged.verdicts judged.are)
 

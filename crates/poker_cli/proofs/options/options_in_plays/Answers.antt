@@ -12,10 +12,10 @@ pub returns-then-count-index : goal.returns-then-count-index
 returns-then-count-index c =
     let plays = c.args.plays.now in
     let beyond : length plays ≤ c.saturating_sub-index.result = omega (arith, c.if-count-index.true, c.len-count.ensures) in
-    IfOk-weaker c.no_hand.result _ _
+    IfOk-weaker c.answer_no_hand.result _ _
     (λ answer shown. subst (AreOptionsAt c.args.hand c.args.events plays) (sym (shown ∙ ap (no_hand c.args.hand) c.len-count.ensures))
     (in_options.NoHand (not_found plays c.args.hand c.saturating_sub-index.result c.saturating_sub-index.ensures beyond)))
-    c.no_hand.ensures
+    c.answer_no_hand.ensures
 
 pub returns-then-all-events : goal.returns-then-all-events
 returns-then-all-events c =
@@ -24,10 +24,10 @@ returns-then-all-events c =
     let here = found plays c.args.hand c.saturating_sub-index.result play c.saturating_sub-index.ensures c.get-play.ensures in
     let all : c.len-all.result ≡ length play.hand.script = c.len-all.ensures ∙ ap (λ (play : Play). length play.hand.script) c.play.ensures.same in
     let fewer : length play.hand.script < c.args.events = omega (arith, c.if-all-events.true, all) in
-    IfOk-weaker c.no_event.result _ _
+    IfOk-weaker c.answer_no_event.result _ _
     (λ answer shown. subst (AreOptionsAt c.args.hand c.args.events plays) (sym (shown ∙ ap (no_event c.args.hand c.args.events) all))
     (in_options.NoEvent play here fewer))
-    c.no_event.ensures
+    c.answer_no_event.ensures
 
 pub returns : goal.returns
 returns c =
@@ -36,5 +36,5 @@ returns c =
     let here = found plays c.args.hand c.saturating_sub-index.result play c.saturating_sub-index.ensures c.get-play.ensures in
     let all : c.len-all.result ≡ length play.hand.script = c.len-all.ensures ∙ ap (λ (play : Play). length play.hand.script) c.play.ensures.same in
     let few : c.args.events ≤ length play.hand.script = omega (arith, c.if-all-events.false, all) in
-    subst (AreOptionsAt c.args.hand c.args.events plays) (sym (c.done.ensures ∙ ap done c.in_ok-text.ensures))
+    subst (AreOptionsAt c.args.hand c.args.events plays) (sym (c.done_with_bytes.ensures ∙ ap done c.in_ok-text.ensures))
     (in_options.Listed play here few c.options-options.result c.options-options.ensures.legal)

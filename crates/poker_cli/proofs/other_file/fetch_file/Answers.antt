@@ -13,8 +13,8 @@ too_long : (file : Option (List ℕ)) → IsAnswer file most_input fetched_is.To
 too_long (Some text) more = (text, (refl, more))
 too_long None more = absurd more
 
-pub returns-in-Ok-TooLong-clause-none : goal.returns-in-Ok-TooLong-clause-none
-returns-in-Ok-TooLong-clause-none g c =
-    by_answer (g.H.Shelf.files c.args.shelf.now) c.args.name.now most_input _ (λ file. HasNoFile file no_files.TooLong) c.in-Ok-TooLong.ensures.answer
-    c.in-Ok-TooLong.ensures.within
-    (λ file is. too_long file (subst (λ (fetched : Fetched). IsAnswer file most_input fetched) c.in-Ok-TooLong.field-0-is is))
+pub returns-in-TooLong-clause-none : goal.returns-in-TooLong-clause-none
+returns-in-TooLong-clause-none g c =
+    by_answer (g.H.Shelf.files c.args.shelf.now) c.args.name.now most_input _ (λ file. HasNoFile file no_files.TooLong) c.in_ok-file.ensures.answer
+    c.in_ok-file.ensures.within
+    (λ file is. too_long file (subst (λ (fetched : Fetched). IsAnswer file most_input fetched) c.in-TooLong.is is))

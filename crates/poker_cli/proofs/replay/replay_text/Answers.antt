@@ -7,5 +7,5 @@ use Rattle.poker_cli.proofs.replay.replay_text.Goals as goal
 pub take_plays-requires : goal.take_plays-requires
 take_plays-requires c = none_printed replay_lines (string_bytes c.new.result) c.new.ensures.bytes
 
-pub returns-in-Ok-clause-said : goal.returns-in-Ok-clause-said
-returns-in-Ok-clause-said c = replay_is c.args.records (string_bytes c.in-Ok.lines.text) c.in-Ok.ensures.taken
+pub returns-clause-said : goal.returns-clause-said
+returns-clause-said c = replay_is c.args.records (string_bytes c.in_ok-lines.lines.text) c.in_ok-lines.ensures.taken

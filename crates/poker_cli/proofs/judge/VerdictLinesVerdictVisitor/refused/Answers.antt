@@ -4,7 +4,7 @@ use Rattle.std.specs.Fmt.{decimal}
 use Rattle.convert_core.specs.FaultText.{refusal_text}
 use Rattle.poker_cli.specs.Judge.{begins_text}
 use Rattle.poker_cli.proofs.JudgedLines.{now_refused}
-use Rattle.poker_cli.proofs.judge.VerdictLinesVerdictVisitor.pass.Goals as goal
+use Rattle.poker_cli.proofs.judge.VerdictLinesVerdictVisitor.refused.Goals as goal
 
 pub returns : goal.returns
 returns c = λ start before hand on counted refused printed.

@@ -3,7 +3,7 @@ use Rattle.std.proofs.Common.{◌∙◌, ap, codes, refl, string_bytes, ◌+◌,
 use Rattle.std.specs.Fmt.{decimal}
 use Rattle.poker_cli.specs.Judge.{begins_text}
 use Rattle.poker_cli.proofs.JudgedLines.{legal_few, now_legal}
-use Rattle.poker_cli.proofs.judge.VerdictLinesVerdictVisitor.take.Goals as goal
+use Rattle.poker_cli.proofs.judge.VerdictLinesVerdictVisitor.legal.Goals as goal
 
 pub overflow_add-self : goal.overflow_add-self
 overflow_add-self c = omega (arith, c.args.place.within, c.requires.1.counted, c.requires.1.took.counted, legal_few c.requires.1.verdicts)
