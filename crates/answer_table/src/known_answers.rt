@@ -5,7 +5,7 @@ ghost use Rattle.std.specs.List.{AllByRecursion};
 ghost use Rattle.acpc_game.specs.declared.game.Game.{Game};
 ghost use Rattle.chip_ledger.specs.declared.numbers.Seat.{Seat};
 ghost use Rattle.command_words.specs.Command as commands;
-ghost use Rattle.command_words.specs.Command.{Command, reads_input};
+ghost use Rattle.command_words.specs.Command.{Command, has_input};
 ghost use Rattle.command_words.specs.Words.{Plain, Request};
 ghost use Rattle.hand_canon.specs.Sound.{IsSound};
 ghost use Rattle.hand_equity.specs.Street.{deals_board, first_unknown};
@@ -23,7 +23,7 @@ ghost use Rattle.poker_cli.specs.Asked.{IsAsked};
 ghost use Rattle.poker_cli.specs.Compare.{compared};
 ghost use Rattle.poker_cli.specs.ComparedRuns.{AreFoundOther, AreFoundSame, AreOther, AreSame, BothRead, FindsOther};
 ghost use Rattle.poker_cli.specs.Headline.{ConversionEnds, ConvertsInto};
-ghost use Rattle.convert_core.specs.Formats.{AreSameIn, SayRecords, first_lines, first_refusal_in, kept_in, unspelled_in};
+ghost use Rattle.convert_core.specs.Formats.{AreSameIn, SayRecords, first_refusal_in, kept_in, start_lines, unspelled_in};
 ghost use Rattle.poker_cli.specs.LegalInputs.{AsksOfLegal, PrintsAll};
 ghost use Rattle.poker_cli.specs.OneAnswer.{AreOneAnswer};
 ghost use Rattle.poker_cli.specs.Views.{AreViews, each_view, most_view_bytes};
@@ -45,7 +45,7 @@ use poker_cli::{
 /// An input has one answer.
 pub fn answer_is_one()
     ensures { (command : Command Format) (bytes : List ℕ) (answer other : Answer)
-        → reads_input command ≡ true
+        → has_input command ≡ true
         → IsAnswer command bytes answer → IsAnswer command bytes other
         → AreOneAnswer command answer other }
 {
@@ -56,10 +56,10 @@ pub fn answer_is_one()
 pub fn hands_have_lines()
     ensures log { (game : Game) (bytes : List ℕ) (records : List Record)
         → SayRecords (readers.Acpc game) bytes records
-        → length (first_lines (readers.Acpc game) bytes) ≡ length records }
+        → length (start_lines (readers.Acpc game) bytes) ≡ length records }
     ensures blocks { (dialect : Dialect) (bytes : List ℕ) (records : List Record)
         → SayRecords (readers.Ohh dialect) bytes records
-        → length (first_lines (readers.Ohh dialect) bytes) ≡ length records }
+        → length (start_lines (readers.Ohh dialect) bytes) ≡ length records }
 {
     law_of_lines();
 }

@@ -7,9 +7,9 @@ use Rattle.chip_ledger.specs.declared.seat_row.TheConstants.{MOST_AMOUNT}
 use Rattle.chip_ledger.specs.SeatRow.{amount_of}
 use Rattle.play_event.specs.declared.setup.Setup.{Setup}
 use Rattle.play_event.specs.Games.{game_of}
-use Rattle.play_event.specs.Streets.{limit_of, is_stud}
+use Rattle.play_event.specs.Streets.{limit_of, is_stud_game}
 use Rattle.chip_ledger.specs.declared.numbers.TheConstants.{MOST_CHIPS}
-use Rattle.play_event.specs.ValidSetup.{IsValid, IsSize, IsSizeWhere, is_fixed, has_antes}
+use Rattle.play_event.specs.ValidSetup.{IsValid, IsSize, IsSizeWhere, is_fixed_limit, has_antes}
 use Rattle.chip_ledger.specs.Sizes.{is_size}
 use Rattle.play_event.proofs.Sizes.{size_is}
 
@@ -66,31 +66,31 @@ pass_amounts setup =
 
 abbrev pass_bets : Setup → Bool
 pass_bets setup =
-    is_size_where (is_stud setup.code) setup.bring_in
-    && (is_size_where (is_fixed (limit_of setup.code)) setup.small_bet
-    && (is_size_where (is_fixed (limit_of setup.code)) setup.big_bet
-    && is_size_where (not (is_fixed (limit_of setup.code))) setup.min_bet))
+    is_size_where (is_stud_game setup.code) setup.bring_in
+    && (is_size_where (is_fixed_limit (limit_of setup.code)) setup.small_bet
+    && (is_size_where (is_fixed_limit (limit_of setup.code)) setup.big_bet
+    && is_size_where (not (is_fixed_limit (limit_of setup.code))) setup.min_bet))
 
 abbrev pass_rest : Setup → Bool
 pass_rest setup =
     (not setup.dead_antes || has_antes setup)
     && ((not (setup.stacks.seats == 2) || nat_le (amount_of setup.blinds 2) (amount_of setup.blinds 1))
-    && (not (is_stud setup.code) || are_most 0 setup.blinds.amounts))
+    && (not (is_stud_game setup.code) || are_most 0 setup.blinds.amounts))
 
 pub valid_by : (setup : Setup) → pass_seats setup ≡ true → pass_amounts setup ≡ true → pass_bets setup ≡ true → pass_rest setup ≡ true → IsValid setup
 valid_by setup seats amounts bets rest =
-    let fixed = is_fixed (limit_of setup.code) in
+    let fixed = is_fixed_limit (limit_of setup.code) in
     let seats_1 = and_parts (setup.antes.seats == setup.stacks.seats) ((setup.blinds.seats == setup.stacks.seats) && nat_le setup.stacks.seats (game_of setup.code).seats) seats in
     let seats_2 = and_parts (setup.blinds.seats == setup.stacks.seats) (nat_le setup.stacks.seats (game_of setup.code).seats) seats_1.1 in
     let amounts_1 = and_parts (are_sizes setup.stacks.seats setup.stacks.amounts) (are_below setup.antes.amounts setup.stacks.amounts && (are_most MOST_CHIPS setup.blinds.amounts && are_most MOST_AMOUNT setup.rakes.rakes)) amounts in
     let amounts_2 = and_parts (are_below setup.antes.amounts setup.stacks.amounts) (are_most MOST_CHIPS setup.blinds.amounts && are_most MOST_AMOUNT setup.rakes.rakes) amounts_1.1 in
     let amounts_3 = and_parts (are_most MOST_CHIPS setup.blinds.amounts) (are_most MOST_AMOUNT setup.rakes.rakes) amounts_2.1 in
-    let bets_1 = and_parts (is_size_where (is_stud setup.code) setup.bring_in) (is_size_where fixed setup.small_bet && (is_size_where fixed setup.big_bet && is_size_where (not fixed) setup.min_bet)) bets in
+    let bets_1 = and_parts (is_size_where (is_stud_game setup.code) setup.bring_in) (is_size_where fixed setup.small_bet && (is_size_where fixed setup.big_bet && is_size_where (not fixed) setup.min_bet)) bets in
     let bets_2 = and_parts (is_size_where fixed setup.small_bet) (is_size_where fixed setup.big_bet && is_size_where (not fixed) setup.min_bet) bets_1.1 in
     let bets_3 = and_parts (is_size_where fixed setup.big_bet) (is_size_where (not fixed) setup.min_bet) bets_2.1 in
     let dead = not setup.dead_antes || has_antes setup in
     let two = not (setup.stacks.seats == 2) || nat_le (amount_of setup.blinds 2) (amount_of setup.blinds 1) in
-    let no_blinds = not (is_stud setup.code) || are_most 0 setup.blinds.amounts in
+    let no_blinds = not (is_stud_game setup.code) || are_most 0 setup.blinds.amounts in
     let rest_1 = and_parts dead (two && no_blinds) rest in
     let rest_2 = and_parts two no_blinds rest_1.1 in
     record {
@@ -100,12 +100,12 @@ valid_by setup seats amounts bets rest =
       stacks = λ seat first last. sizes_by setup.stacks.seats setup.stacks.amounts (seat - 1) amounts_1.0 (omega (arith, first, last));
       antes = λ seat. below_by setup.antes.amounts setup.stacks.amounts (seat - 1) amounts_2.0;
       blinds = λ seat. most_by MOST_CHIPS setup.blinds.amounts (seat - 1) amounts_3.0;
-      bring_in = size_where (is_stud setup.code) setup.bring_in bets_1.0;
+      bring_in = size_where (is_stud_game setup.code) setup.bring_in bets_1.0;
       small_bet = size_where fixed setup.small_bet bets_2.0;
       big_bet = size_where fixed setup.big_bet bets_3.0;
       least_bet = size_where (not fixed) setup.min_bet bets_3.1;
       dead_antes = implied setup.dead_antes (has_antes setup) rest_1.0;
       heads_up = λ is. leb-true (amount_of setup.blinds 2) (amount_of setup.blinds 1) (implied (setup.stacks.seats == 2) (nat_le (amount_of setup.blinds 2) (amount_of setup.blinds 1)) rest_2.0 (eq-eqb setup.stacks.seats 2 is));
-      stud = λ is seat. let none = most_by 0 setup.blinds.amounts (seat - 1) (implied (is_stud setup.code) (are_most 0 setup.blinds.amounts) rest_2.1 is) in omega (arith, none);
+      stud = λ is seat. let none = most_by 0 setup.blinds.amounts (seat - 1) (implied (is_stud_game setup.code) (are_most 0 setup.blinds.amounts) rest_2.1 is) in omega (arith, none);
       rakes = λ pot. most_by MOST_AMOUNT setup.rakes.rakes (pot - 1) amounts_3.1;
     }

@@ -2,7 +2,7 @@
 use Rattle.std.specs.Prelude.{ℕ, Bool, false, List, [], ◌∷◌, Option, Some, None, IsTrue, unwrap_or}
 use Rattle.card_set.specs.declared.card.Card.{Card}
 use Rattle.card_set.specs.declared.card.Slot.{Slot}
-use Rattle.card_set.specs.Known.{known_cards}
+use Rattle.card_set.specs.Known.{known_among}
 use Rattle.card_set.specs.Spelling.{slots_spelled}
 use Rattle.chip_ledger.specs.RakeRow.{no_rakes}
 use Rattle.play_event.specs.declared.code.Code.{Code}
@@ -19,7 +19,7 @@ slots_named text = unwrap_or (slots_spelled text) []
 
 -- the known cards of a text
 abbrev pub cards_named : List ℕ → List Card
-cards_named text = known_cards (slots_named text)
+cards_named text = known_among (slots_named text)
 
 -- a hand of a game, and whether its antes are dead: bring-in, small bet, big bet and least bet;
 -- stacks, antes and blinds

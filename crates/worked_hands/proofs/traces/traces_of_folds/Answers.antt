@@ -1,7 +1,7 @@
 -- The trace is computed; each other one differs in a number, a card or a move.
 use Rattle.std.specs.Prelude.{◌≡◌, ℕ, filter, length, sum_by}
 use Rattle.std.proofs.Common.{ap, arith, lit≤}
-use Rattle.card_set.specs.Known.{is_unknown}
+use Rattle.card_set.specs.Known.{hides_card}
 use Rattle.card_set.specs.Spelling.{slot_spelled, rank_lettered, suit_lettered}
 use Rattle.chip_ledger.specs.Pots.{after_return, levels, layers, pots_at, pots_of}
 use Rattle.play_event.specs.Due.{turn}
@@ -26,7 +26,7 @@ returns-clause-returned_chips_in_the_pot c = λ is. let same : ◌≡◌ {A = �
 
 pub returns-clause-cards_that_nobody_named : goal.returns-clause-cards_that_nobody_named
 unfolding turn why with_event slot_spelled rank_lettered suit_lettered after_return levels layers pots_at pots_of
-returns-clause-cards_that_nobody_named c = λ is. let same : ◌≡◌ {A = ℕ} 0 2 = ap (λ core. length (filter (λ place. is_unknown place.slot) core.places)) is.core in omega (arith, same)
+returns-clause-cards_that_nobody_named c = λ is. let same : ◌≡◌ {A = ℕ} 0 2 = ap (λ core. length (filter (λ place. hides_card place.slot) core.places)) is.core in omega (arith, same)
 
 pub returns-clause-a_fold_left_out : goal.returns-clause-a_fold_left_out
 unfolding turn why with_event slot_spelled rank_lettered suit_lettered after_return levels layers pots_at pots_of
