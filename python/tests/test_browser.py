@@ -12,7 +12,7 @@ import handref
 from handref import cut, page, toml
 
 BROWSERS = ("chromium-headless-shell", "chromium", "chromium-browser", "google-chrome")
-CASES = HERE.parent.parent / "cases"
+CASES = HERE.parent.parent / "tests" / "cases"
 
 # Goes by keys through each event of each hand, and writes down what the page then says.
 WALK = """<script>addEventListener("load", async () => {

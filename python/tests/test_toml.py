@@ -10,7 +10,7 @@ from pages import EXAMPLES, HERE, Case
 import handref
 from handref import toml
 
-CASES = HERE.parent.parent / "cases"
+CASES = HERE.parent.parent / "tests" / "cases"
 PARTS = ["a.b = 1", "[x]", "[[x]]", "[x.y]", "x = {a = 1, b.c = 2}", "x = {a = 1,\n b = 2,}",
          "t = 12:30", "t = 1979-05-27 07:32:00Z", 's = """a\nb\\\n  c"""', "s = '''a'b''c'''",
          's = "\\e\\x41\\u00e9"', "f = 1e5", "f = 1_000.5", "i = 0x1F", "i = -0", "b = true",
