@@ -13,7 +13,7 @@ import sys
 from typing import Dict, List
 
 sys.path.insert(0, os.path.join(os.path.dirname(os.path.abspath(__file__)), "..", "..", "python"))
-from handref import NotDone, convert, cut, phhs, pieces, sources, toml  # noqa: E402
+from handref import HandrefError, convert, phhs, pieces, sources, texts, toml  # noqa: E402
 
 PLAY = ("actions", "ante_trimming_status", "antes", "big_bet", "blinds_or_straddles", "bring_in",
         "finishing_stacks", "min_bet", "small_bet", "starting_stacks", "variant", "_rakes")
@@ -45,8 +45,8 @@ def main() -> int:
     for source in sources.sources(asked.path)[0]:
         try:
             found = keys_of(source, asked.game, asked.no_notes)
-        except (NotDone, OSError, ValueError) as error:
-            print(f"{source.shown}: {cut.shown(str(error))}", file=sys.stderr)
+        except (HandrefError, OSError, ValueError) as error:
+            print(f"{source.shown}: {texts.shown(str(error))}", file=sys.stderr)
             status = 1
             continue
         for hand, key in enumerate(found, 1):

@@ -15,9 +15,9 @@ from difflib import get_close_matches
 from typing import Any, Iterator, Optional
 
 import handref
-from handref import (Game, Hands, NotDone, Piece, cut, explain_game, explain_play, explain_text,
-                     messages, places)
-from handref.cut import counted, shown
+from handref import (Game, HandrefError, Hands, Piece, explain_game, explain_play, explain_text,
+                     formats, messages, places)
+from handref.texts import counted, shown
 from handref.places import Spot
 
 STATUS = {"refused": 1, "usage": 2, "bad input": 3, "unspelled": 4, "read fault": 5,
@@ -95,11 +95,11 @@ def explain(hands: Hands, notation: handref.Notation, game: Game = None,
     path = handref.path_of(hands) or ""
     if line is not None:
         said = printed(line)
-        return _said(handref.not_done(status_of(said) or 0, said), hands, path, notation, game)
+        return _said(handref.error_of(status_of(said) or 0, said), hands, path, notation, game)
     return _asked(hands, path, notation, game)
 
 
-def _said(error: NotDone, hands: Hands, path: str, notation: handref.Notation,
+def _said(error: HandrefError, hands: Hands, path: str, notation: handref.Notation,
           game: Game) -> Explanation:
     """A line about a file: of a long one, about the piece that has the hand."""
     hand, line = error.hand, error.line_number if error.status == 3 else None
@@ -143,7 +143,7 @@ def _asked(hands: Hands, path: str, notation: handref.Notation, game: Game) -> E
             verdicts = handref.judge(piece.data, notation, game)
         except handref.NoProgram:
             raise  # nothing is known of the hands
-        except NotDone as error:
+        except HandrefError as error:
             return _of_piece(error, path, piece, notation, game)
         refused = [row.refused for row in verdicts if row.refused]
         if refused:
@@ -171,7 +171,7 @@ def _pieces(hands: Hands, notation: handref.Notation) -> Iterator[Piece]:
         yield from handref.pieces(hands, notation)
 
 
-def _of_piece(error: NotDone, path: str, piece: Piece, notation: handref.Notation,
+def _of_piece(error: HandrefError, path: str, piece: Piece, notation: handref.Notation,
               game: Game) -> Explanation:
     """A fault of a piece of a file, said of the whole file."""
     found = _of(error, path, piece.data, notation, game)
@@ -181,7 +181,7 @@ def _of_piece(error: NotDone, path: str, piece: Piece, notation: handref.Notatio
     return replace(found, line=whole.line)
 
 
-def _of(error: NotDone, path: str, data: bytes, notation: handref.Notation,
+def _of(error: HandrefError, path: str, data: bytes, notation: handref.Notation,
         game: Game) -> Explanation:
     """What is known of a line and its file."""
     found = Explanation(error.status, error.line, path)
@@ -206,7 +206,7 @@ def _of(error: NotDone, path: str, data: bytes, notation: handref.Notation,
     return found
 
 
-def _of_game(found: Explanation, error: NotDone, game: Game) -> None:
+def _of_game(found: Explanation, error: HandrefError, game: Game) -> None:
     """What is wrong with the game file."""
     if game is None:
         found.facts = ["--game GAME names the game file: with it the line is looked at."]
@@ -217,14 +217,14 @@ def _of_game(found: Explanation, error: NotDone, game: Game) -> None:
         found.spot, found.facts = explain_game.why(data, error.line_number, error.reason or "")
 
 
-def _of_limit(error: NotDone) -> list[str]:
+def _of_limit(error: HandrefError) -> list[str]:
     if error.place == "input bytes":
         return ["handref many takes files of any length."]
     return ["handref many takes files with any number of hands."] if error.place in (
         "hands", "moves of the file") else []
 
 
-def _facts(error: NotDone, data: bytes, notation: handref.Notation, game: Game,
+def _facts(error: HandrefError, data: bytes, notation: handref.Notation, game: Game,
            found: Optional[Spot]) -> list[str]:
     value = found.value if found else None
     if error.status == 1:
@@ -238,7 +238,7 @@ def _facts(error: NotDone, data: bytes, notation: handref.Notation, game: Game,
     return []
 
 
-def _seats(error: NotDone, notation: str, data: bytes) -> list[str]:
+def _seats(error: HandrefError, notation: str, data: bytes) -> list[str]:
     """How many items a list of PHH needs."""
     if error.reason != "ListLength" or notation != "phh" or error.place == "_rakes":
         return []
@@ -248,7 +248,7 @@ def _seats(error: NotDone, notation: str, data: bytes) -> list[str]:
 
 # What a key, a member or a field has in place of what is read.
 
-def _of_value(error: NotDone, notation: handref.Notation, found: Spot) -> list[str]:
+def _of_value(error: HandrefError, notation: handref.Notation, found: Spot) -> list[str]:
     """What is at the place of a fault of the input."""
     reason, value = error.reason or "", found.value
     if notation == "acpc":
@@ -257,7 +257,7 @@ def _of_value(error: NotDone, notation: handref.Notation, found: Spot) -> list[s
         return _of_missing(error, value)
     if reason == "UnknownVariant":
         return [f"variant is {shown(str(value))}. The games are: " + ", ".join(
-            f"{code} {name}" for code, name in cut.GAMES.items()) + "."]
+            f"{code} {name}" for code, name in formats.GAMES.items()) + "."]
     if reason in ("ListLength", "SeatCount") and isinstance(value, list):
         return [f"{error.place} has {counted(len(value), 'item')}."]
     if reason == "BadAction":
@@ -273,7 +273,7 @@ def _of_value(error: NotDone, notation: handref.Notation, found: Spot) -> list[s
     return said
 
 
-def _of_missing(error: NotDone, value: Any) -> list[str]:
+def _of_missing(error: HandrefError, value: Any) -> list[str]:
     """The key that is missing, and one like it that is there."""
     name = re.split(r"[.\]]", error.place or "")[-1]
     keys = [key for key in value if isinstance(key, str)] if isinstance(value, dict) else []
@@ -314,7 +314,7 @@ def _brief(value: Any) -> str:
 def of_line(line: str) -> Explanation:
     """What a line means, without its file."""
     said = printed(line)
-    error = handref.not_done(status_of(said) or 0, said)
+    error = handref.error_of(status_of(said) or 0, said)
     return Explanation(error.status, said, meaning=messages.explained(error))
 
 
@@ -322,7 +322,7 @@ def notation_of(path: str, notation: Optional[handref.Notation],
                 game: Game) -> handref.Notation:
     """The notation that is said, or that of the end of a name. ValueError: there is none, or the
     game file of a log is not said."""
-    found = notation or cut.notation_of(path)
+    found = notation or formats.notation_of(path)
     if not found:
         raise ValueError(f"{path}: no notation has this name; --from says which it is")
     if (found == "acpc") != (game is not None):

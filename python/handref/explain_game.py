@@ -4,7 +4,7 @@ import re
 from difflib import get_close_matches
 from typing import Optional
 
-from handref.cut import counted, shown
+from handref.texts import counted, shown
 from handref.places import Spot, spot
 
 # The keys of docs/FORMATS.md, in its spelling, with how many numbers each has: 0 is one for each

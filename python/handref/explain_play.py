@@ -5,7 +5,7 @@ from dataclasses import dataclass
 from typing import Any, Optional, Sequence
 
 import handref
-from handref import Game, NotDone, Step, cut, toml
+from handref import Game, HandrefError, Step, single_hands, toml
 from handref.places import seats_of
 
 _WANTED = {"phh": "cbr", "acpc": "r"}  # what a raise is called, before its amount
@@ -17,7 +17,7 @@ class _Hand:
     data: bytes
     notation: handref.Notation
     game: Game
-    refused: NotDone
+    refused: HandrefError
     steps: Sequence[Step]
 
     @property
@@ -25,7 +25,7 @@ class _Hand:
         return self.steps[-1]
 
 
-def facts(data: bytes, notation: handref.Notation, game: Game, refused: NotDone,
+def facts(data: bytes, notation: handref.Notation, game: Game, refused: HandrefError,
           said: Any = None) -> list[str]:
     """Sentences about a refused hand, which is the only one of its file: what was said, what would
     have been legal, the chips before it. `said` is what the source says there."""
@@ -33,7 +33,7 @@ def facts(data: bytes, notation: handref.Notation, game: Game, refused: NotDone,
         played = handref.replay(data, notation, game, each=True)[0]
     except handref.NoProgram:
         raise
-    except NotDone as error:
+    except HandrefError as error:
         return [f"Asked now, the program says of this hand: {error.line}."]
     if played.refused is None or _verdict(played.refused) != _verdict(refused):
         now = _verdict(played.refused) if played.refused else "legal"
@@ -50,12 +50,12 @@ def facts(data: bytes, notation: handref.Notation, game: Game, refused: NotDone,
     return [*found, _due(hand), _chips(hand)]
 
 
-def _verdict(error: NotDone) -> str:
+def _verdict(error: HandrefError) -> str:
     """What is wrong with a hand, without its number in the file."""
     return re.sub(r"^refused: hand \d+: ", "", error.line)
 
 
-def reasons(data: bytes, notation: handref.Notation, game: Game, refused: NotDone,
+def reasons(data: bytes, notation: handref.Notation, game: Game, refused: HandrefError,
             steps: Sequence[Step], said: Any = None) -> list[str]:
     """The sentences about what is wrong alone, where the steps before it are known already."""
     return _of_reason(_Hand(data, notation, game, refused, steps), said)
@@ -75,7 +75,7 @@ def _of_rake(hand: _Hand) -> list[str]:
         pots = handref.replay(_without_rakes(hand), hand.notation, hand.game)[0].pots
     except handref.NoProgram:
         raise
-    except (NotDone, ValueError, LookupError):
+    except (HandrefError, ValueError, LookupError):
         return []
     return [f"Pot {number} has {pots[number - 1].chips} chips before its rake."
             if number <= len(pots) else f"There is no pot {number}."]
@@ -85,7 +85,7 @@ def _without_rakes(hand: _Hand) -> bytes:
     """The hand without its rakes, and without what it states of its end."""
     if hand.notation == "phh":
         table = toml.read(hand.data.decode("utf-8-sig"))
-        return cut.document({key: table[key] for key in table
+        return single_hands.document({key: table[key] for key in table
                              if key not in ("_rakes", "finishing_stacks")})
     source = json.loads(hand.data)["ohh"]
     source.pop("pots", None)
@@ -199,7 +199,7 @@ def _other_dialect(hand: _Hand) -> list[str]:
     try:
         if handref.judge(hand.data, other)[0].refused is None:
             return [f"Read as {other} the hand is legal: try --from {other}."]
-    except NotDone:
+    except HandrefError:
         pass
     return []
 

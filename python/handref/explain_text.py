@@ -6,7 +6,7 @@ from typing import Optional
 
 import handref
 from handref import toml
-from handref.cut import shown
+from handref.texts import shown
 from handref.places import Spot, blocks, spot
 
 Found = tuple[Optional[Spot], list[str]]

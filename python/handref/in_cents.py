@@ -25,7 +25,7 @@ def cents(hands: Hands, times: int = 100, notation: Optional[str] = None) -> byt
     """Hands with their amounts multiplied, as chips are whole, and with the unit in `currency`. Of
     a path the end says the notation, and bytes are OHH if nothing is said. OHH is written with one
     hand per line, without members that are null. ValueError, with file and hand: an amount is not
-    whole then, or the file does not read. NotDone: a device or a pipe has no end."""
+    whole then, or the file does not read. HandrefError: a device or a pipe has no end."""
     path = handref.path_of(hands)
     notation = notation or ("phh" if re.search(r"\.phhs?(\.gz)?\Z", path or "") else "ohh")
     if notation not in ("phh", "ohh", "ohh-to"):
@@ -46,7 +46,7 @@ def _read(hands: Hands) -> bytes:
     is_file = path is None or os.path.isfile(path)
     data = handref.read(hands, -1 if is_file else handref.MOST_BYTES + 1)
     if not is_file and len(data) > handref.MOST_BYTES:
-        raise handref.not_done(7, f"limit: input bytes {handref.MOST_BYTES}", path)
+        raise handref.error_of(7, f"limit: input bytes {handref.MOST_BYTES}", path)
     return data
 
 

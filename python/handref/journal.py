@@ -21,13 +21,13 @@ class Answer:
     hands: int = 0
     legal: int = 0
     lines: int = 0
-    told: list[tuple[Optional[int], Optional[int], int, str]] = field(default_factory=list)
+    problems: list[tuple[Optional[int], Optional[int], int, str]] = field(default_factory=list)
     rows: list[list[Any]] = field(default_factory=list)
     is_killed: bool = False  # by a signal, which may come of an interrupt: it is tried again
 
     def is_done(self, call: "Call") -> bool:
         """Whether nothing was said but verdicts that are part of the answer."""
-        return all(call.is_verdict(status) for _, _, status, _ in self.told)
+        return all(call.is_verdict(status) for _, _, status, _ in self.problems)
 
 
 @dataclass
@@ -87,7 +87,7 @@ class Journal:
 
     def note(self, region: Region, answer: Answer) -> None:
         """Notes what came of a piece."""
-        row = [answer.hands, answer.legal, answer.lines, answer.told, answer.rows]
+        row = [answer.hands, answer.legal, answer.lines, answer.problems, answer.rows]
         with self.lock:
             self.file.write(json.dumps([key(region), row]).encode() + b"\n")
             self.file.flush()

@@ -9,7 +9,7 @@ import sys
 from typing import Any, Optional
 
 import handref
-from handref import cut, in_cents, many
+from handref import formats, in_cents, many, outputs, texts
 from handref.journal import Call
 
 NOTATIONS = ("phh", "ohh", "ohh-to", "acpc")
@@ -130,22 +130,22 @@ def run_cents(given: argparse.Namespace) -> int:
         raise ValueError("cents of many files need --out FOLDER")
     written = []
     for path in given.path:
-        notation = given.notation or cut.notation_of(path)
+        notation = given.notation or formats.notation_of(path)
         if notation not in ("phh", "ohh", "ohh-to"):
-            raise ValueError(f"{cut.shown(path)}: cents are of PHH and OHH: --from says which")
+            raise ValueError(f"{texts.shown(path)}: cents are of PHH and OHH: --from says which")
         out = os.path.join(given.out, os.path.basename(path)) if is_folder else given.out
         if out and os.path.exists(out) and os.path.samefile(out, path):
-            raise ValueError(f"{cut.shown(path)}: what is written would take its place")
+            raise ValueError(f"{texts.shown(path)}: what is written would take its place")
         if out in written:
-            raise ValueError(f"{cut.shown(str(out))}: two files have this name")
+            raise ValueError(f"{texts.shown(str(out))}: two files have this name")
         written.append(out)
     status = 0
     for path, out in zip(given.path, written):
         try:
-            data = in_cents.cents(path, 100, given.notation or cut.notation_of(path))
-        except (ValueError, OSError, handref.NotDone) as why:
-            print(cut.shown(str(why)), file=sys.stderr, flush=True)
-            status = status or (why.status if isinstance(why, handref.NotDone) else
+            data = in_cents.cents(path, 100, given.notation or formats.notation_of(path))
+        except (ValueError, OSError, handref.HandrefError) as why:
+            print(texts.shown(str(why)), file=sys.stderr, flush=True)
+            status = status or (why.status if isinstance(why, handref.HandrefError) else
                                 3 if isinstance(why, ValueError) else 5)
             continue
         _put(data, out, is_folder)
@@ -159,7 +159,7 @@ def _put(data: bytes, out: Optional[str], is_folder: bool) -> None:
         return
     if is_folder:
         os.makedirs(os.path.dirname(out) or ".", exist_ok=True)
-    with cut.written(out) as file:
+    with outputs.written(out) as file:
         file.write(data)
 
 
@@ -168,7 +168,7 @@ def no_room(fault: OSError) -> str:
     """The line of a file that could not be written, or nothing if the fault is another one."""
     if fault.errno not in (errno.ENOSPC, errno.EDQUOT, errno.EROFS, errno.EFBIG):
         return ""
-    place = f"{cut.shown(str(fault.filename))}: " if fault.filename else ""
+    place = f"{texts.shown(str(fault.filename))}: " if fault.filename else ""
     return f"{place}write fault: {(fault.strerror or str(fault)).lower()}"
 
 
@@ -176,7 +176,7 @@ def run(given: argparse.Namespace) -> int:
     """Runs `many` or `cents`. Status 6: nothing can be written."""
     try:
         return run_many(given) if given.command == "many" else run_cents(given)
-    except (handref.NotDone, BrokenPipeError):
+    except (handref.HandrefError, BrokenPipeError):
         raise
     except OSError as fault:
         line = no_room(fault)

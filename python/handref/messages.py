@@ -88,7 +88,7 @@ def plain(text: str) -> str:
     return re.sub(r"\[([^\]]*)\]\([^)]*\)", r"\1", text).replace("`", "")
 
 
-def explained(error: handref.NotDone, notation: Optional[str] = None) -> str:
+def explained(error: handref.HandrefError, notation: Optional[str] = None) -> str:
     """What the document says of a call that is not done, after the name of what is wrong.
     FileNotFoundError: the document is not here."""
     said = said_of(error.status, error.line, notation)
@@ -107,7 +107,7 @@ def explained(error: handref.NotDone, notation: Optional[str] = None) -> str:
 def said_of(status: int, line: str, notation: Optional[str] = None) -> Optional[Said]:
     """The part of the document about a line, and None where it has none."""
     line = re.sub("^file: ", "", line)
-    error = handref.not_done(status, line)
+    error = handref.error_of(status, line)
     own = [part for part in parts() if part.status == status]
     reason = error.reason or ""
     if status == 7:
@@ -120,7 +120,7 @@ def said_of(status: int, line: str, notation: Optional[str] = None) -> Optional[
         next(iter(found), None) or (None if reason else _first(own))
 
 
-def meaning(error: handref.NotDone, notation: Optional[str] = None) -> str:
+def meaning(error: handref.HandrefError, notation: Optional[str] = None) -> str:
     """What the document says of a call that is not done; nothing where it is not here."""
     return _meaning(error.status, re.sub(r"\d+", "1", error.line), notation)
 

@@ -2,7 +2,7 @@
 import html
 from typing import Any, Iterable, Sequence
 
-from handref.cut import short, shown
+from handref.texts import short, shown
 from handref.page_played import Page
 
 _WIDE, _HIGH, _COLUMNS, _LINES = 960, 340, 900, 8

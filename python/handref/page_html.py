@@ -10,8 +10,10 @@ from importlib import resources
 from typing import Any, Iterator, Optional, Sequence
 
 import handref
-from handref import NotDone, messages
-from handref.cut import GAMES, MOST_UNREAD, short, shown
+from handref import HandrefError, messages
+from handref.formats import GAMES
+from handref.single_hands import MOST_UNREAD
+from handref.texts import short, shown
 from handref.explain_play import due_there
 from handref.page_chart import session_part
 from handref.page_played import Hand, Page
@@ -19,13 +21,13 @@ from handref.page_played import Hand, Page
 MOST_LISTED = 100  # hands that are there without JavaScript, event by event
 _BLOCK = 256  # hands that are packed together
 
-def _told_of(error: NotDone) -> str:
+def _told_of(error: HandrefError) -> str:
     """What was said of a hand, without its number, which the page has beside it."""
     return re.sub(r"^(refused|bad input): (hand \d+(, |: ))?", r"\1: ", str(replace(
         error, file=None)))
 
 
-def _reason(error: NotDone) -> str:
+def _reason(error: HandrefError) -> str:
     """What is wrong in a word, or with the numbers that differ."""
     if error.reason and error.place is None:
         return error.reason

@@ -7,8 +7,9 @@ from dataclasses import dataclass, field
 from typing import Any, Callable, Iterable, Optional, TypeVar, Union
 
 import handref
-from handref import Game, NotDone, UnclearOutput, toml
-from handref.cut import shown, together
+from handref import Game, HandrefError, UnclearOutput, toml
+from handref.single_hands import together
+from handref.texts import shown
 from handref.places import seats_of
 
 MOST_ASKED = 50  # hands that are shown with their legal moves and equity, where none are chosen
@@ -19,7 +20,7 @@ MOST_CHOSEN = 500  # and of chosen ones
 class Hand:
     """A hand of the page: its verdict, a file of its own, and what the program says of it."""
     number: int
-    refused: Optional[NotDone]
+    refused: Optional[HandrefError]
     data: bytes  # a file of it, or of more hands where the file was not cut
     place: int = 1  # its number in that file
     told: dict[str, Any] = field(default_factory=dict)  # for the script: see page.js
@@ -285,7 +286,7 @@ def _answer(made: Page, hand: Hand, command: str,
         return _options(made, hand)
     try:
         told = handref.equity(hand.data, made.notation, hand.place, place, made.game)
-    except NotDone as error:
+    except HandrefError as error:
         if error.status != 13:
             raise
         return f"the cards of {error.place} are not all known" if error.place else error.line

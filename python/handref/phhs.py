@@ -218,8 +218,8 @@ def has_number(block: bytes, body: int = 0) -> bool:
 
 @contextmanager
 def open_hands(path: "Union[str, os.PathLike[str]]") -> Iterator[Hands]:
-    """The hands of a file, packed or not. NotSure: it cannot be cut. NotDone: a packed file has no
-    hand that ends within the limit of an input."""
+    """The hands of a file, packed or not. NotSure: it cannot be cut. HandrefError: a packed file
+    has no hand that ends within the limit of an input."""
     with _plain_file(path) as file:
         if os.fstat(file.fileno()).st_size == 0:
             yield Hands(b"")
@@ -243,8 +243,8 @@ def _plain_file(path: "Union[str, os.PathLike[str]]") -> Iterator[IO[bytes]]:
 
 def bounded(file: "Union[BinaryIO, gzip.GzipFile]", ends: "re.Pattern[bytes]",
             name: str) -> Iterator[bytes]:
-    """The blocks of a file that may be of any length. NotDone: nothing in it looks like the end of
-    a hand for longer than an input may be, so the rest need not be kept."""
+    """The blocks of a file that may be of any length. HandrefError: nothing in it looks like the
+    end of a hand for longer than an input may be, so the rest need not be kept."""
     size = begin = 0
     before = b""
     while block := file.read(1 << 20):
@@ -253,7 +253,7 @@ def bounded(file: "Union[BinaryIO, gzip.GzipFile]", ends: "re.Pattern[bytes]",
         begin = size if ends.search(before + block) else begin
         before = block[-100:]
         if size - begin > handref.MOST_BYTES + (1 << 20):
-            raise handref.not_done(7, f"limit: input bytes {handref.MOST_BYTES}", name)
+            raise handref.error_of(7, f"limit: input bytes {handref.MOST_BYTES}", name)
 
 
 def blocks(text: bytes) -> Iterator[tuple[Optional[int], bytes]]:

@@ -10,7 +10,7 @@ from dataclasses import dataclass, replace
 from typing import Any, Optional, Union
 
 import handref
-from handref import NotDone, cut, toml
+from handref import HandrefError, single_hands, toml
 
 Path = tuple[Union[str, int], ...]
 
@@ -40,7 +40,7 @@ def decoded(data: bytes) -> str:
     return data.decode("utf-8", "surrogateescape").removeprefix("\ufeff")
 
 
-def of(data: bytes, notation: str, error: NotDone) -> Optional[Spot]:
+def of(data: bytes, notation: str, error: HandrefError) -> Optional[Spot]:
     """The spot of what was said of a file, and None where it has none."""
     text = decoded(data)
     try:
@@ -87,7 +87,7 @@ def table_of(text: str, hand: int) -> tuple[Optional[str], dict[str, Any]]:
     return key, whole[key]
 
 
-def _of_phh(text: str, error: NotDone) -> Spot:
+def _of_phh(text: str, error: HandrefError) -> Spot:
     top, table = table_of(text, error.hand or 1)
     found = toml.places(text, top)
     front: Path = () if top is None else (top,)
@@ -106,7 +106,7 @@ def _of_phh(text: str, error: NotDone) -> Spot:
     return spot(text, start, place.end, value, path)
 
 
-def _path_of_phh(error: NotDone) -> Path:
+def _path_of_phh(error: HandrefError) -> Path:
     if error.action is not None:
         return ("actions", error.action - 1)
     kind, _, number = (error.place or "").partition(" ")
@@ -145,7 +145,7 @@ def blocks(text: str) -> list[tuple[int, str]]:
     return found
 
 
-def _of_ohh(text: str, error: NotDone) -> Spot:
+def _of_ohh(text: str, error: HandrefError) -> Spot:
     start, block = blocks(text)[(error.hand or 1) - 1]
     if error.reason == "Text":
         return spot(text, start, start + 1)
@@ -160,7 +160,7 @@ def _of_ohh(text: str, error: NotDone) -> Spot:
     return spot(text, start, start + 1, hand)
 
 
-def _path_of_ohh(error: NotDone, hand: dict[str, Any]) -> Path:
+def _path_of_ohh(error: HandrefError, hand: dict[str, Any]) -> Path:
     if error.action is not None or error.reason in ("ends early", "no shown hand"):
         return _path_of_action(error, hand["ohh"])
     if error.status == 1:
@@ -185,7 +185,7 @@ def _path_of_win(hand: dict[str, Any], seat: int) -> Path:
     return ("ohh", "pots")
 
 
-def _path_of_action(error: NotDone, hand: dict[str, Any]) -> Path:
+def _path_of_action(error: HandrefError, hand: dict[str, Any]) -> Path:
     rounds = hand["rounds"]
     if error.action is None:
         return ("ohh", "rounds", len(rounds) - 1)
@@ -243,7 +243,7 @@ def line_of_hand(text: str, hand: int) -> tuple[int, str]:
     raise LookupError
 
 
-def _of_log(text: str, error: NotDone) -> Spot:
+def _of_log(text: str, error: HandrefError) -> Spot:
     at, line = line_of_hand(text, error.hand or 1)
     fields = line.rstrip("\r").split(":")
     starts = [sum(len(field) + 1 for field in fields[:number]) for number in range(len(fields))]
@@ -272,4 +272,4 @@ def hand_of(data: bytes, notation: str, number: int) -> bytes:
     if notation != "phh":
         return blocks(text)[number - 1][1].encode("utf-8", "surrogateescape") + b"\n"
     top, table = table_of(text, number)
-    return data if top is None else cut.document(table)
+    return data if top is None else single_hands.document(table)

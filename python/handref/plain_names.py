@@ -2,7 +2,7 @@
 import json
 from typing import Any
 
-from handref import Notation, cut, toml
+from handref import Notation, single_hands, toml
 
 
 def renamed(text: bytes, notation: Notation) -> tuple[bytes, dict[str, str]]:
@@ -39,7 +39,8 @@ def _phh(text: bytes, word_of: Any) -> bytes:
     for number, table in enumerate(tables, 1):
         if "players" in table:
             table["players"] = [word_of(name) for name in table["players"]]
-        found.append((f"[{number}]\n" if len(tables) > 1 else "").encode() + cut.document(table))
+        head = f"[{number}]\n" if len(tables) > 1 else ""
+        found.append(head.encode() + single_hands.document(table))
     return b"".join(found)
 
 

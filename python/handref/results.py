@@ -7,7 +7,7 @@ from dataclasses import dataclass, field
 from typing import IO, Any, BinaryIO, Iterator, Mapping, Optional, Sequence
 
 import handref
-from handref import cut, phhs, tables, toml
+from handref import outputs, phhs, tables, toml
 from handref.journal import Call
 from handref.sources import Source
 
@@ -26,7 +26,7 @@ class Done:
     source: Source
     parts: list[Part] = field(default_factory=list)
     rows: list[list[Any]] = field(default_factory=list)  # of each piece
-    told: list[tuple[Optional[int], Optional[int], int, str]] = field(default_factory=list)
+    problems: list[tuple[Optional[int], Optional[int], int, str]] = field(default_factory=list)
     is_refused: bool = False  # for more than verdicts that are part of the answer
     hands: int = 0
 
@@ -91,7 +91,7 @@ def put_verdicts(rows: Rows, source: Source, told: Any, hands: int, legal: int, 
 
 
 def _put_verdict(rows: Rows, source: Source, hand: Optional[int], line: Optional[int],
-                 error: Optional[handref.NotDone]) -> None:
+                 error: Optional[handref.HandrefError]) -> None:
     row: dict[str, tables.Value] = {"file": source.name or source.path}
     row.update(tables.verdict(hand, line, error))
     said = re.sub(r"^refused: hand \d+: ", "", error.line) if error else "legal"
@@ -227,7 +227,7 @@ class Files:
 
     def _write(self, out: str, files: Sequence[Done]) -> None:
         count = sum(part.hands for done in files for part in done.parts)
-        with cut.written(out) as file:
+        with outputs.written(out) as file:
             number = 0
             for done in files:
                 for part in done.parts:
@@ -269,7 +269,7 @@ class Files:
                 out = os.path.join(self.out, f"{stem}-{number + 1}.{self.call.to}")
                 if self.call.to == "phh":
                     block = _with_number(block, place, number)
-                with cut.written(out) as new:
+                with outputs.written(out) as new:
                     new.write(block.strip(b"\n") + b"\n")
             os.remove(part.path)
 

@@ -10,7 +10,7 @@ from dataclasses import dataclass, field, replace
 from typing import IO, BinaryIO, Callable, Iterator, Optional, Sequence, Union
 
 import handref
-from handref import Notation, Piece, cut, phhs
+from handref import Notation, Piece, formats, phhs, texts
 
 # PIECE bytes of a log have fewer hands and moves than an input may have, whatever they are: a hand
 # takes 17 bytes or more, a move one. A hand of OHH or PHH that has a move takes far more.
@@ -38,7 +38,7 @@ class Source:
     @property
     def shown(self) -> str:
         """The name on a line: signs that are not seen, or end it, are written as numbers."""
-        return cut.shown(self.name or self.path)
+        return texts.shown(self.name or self.path)
 
 
 @dataclass(frozen=True)
@@ -92,7 +92,7 @@ def sources(paths: Sequence[str], notation: Optional[Notation] = None) -> tuple[
 
 
 def _standard_input(notation: Optional[Notation]) -> Source:
-    """What is read once, into a file that goes away with the process. NotDone: a hand in it is
+    """What is read once, into a file that goes away with the process. HandrefError: a hand in it is
     longer than an input."""
     if notation is None:
         raise ValueError("standard input: --from says which notation it is")
@@ -111,7 +111,7 @@ _HELD: list[IO[bytes]] = []
 
 def _named(path: str, notation: Optional[Notation]) -> Source:
     """A file that the call names."""
-    own = notation or cut.notation_of(path)
+    own = notation or formats.notation_of(path)
     try:
         info = os.stat(path)
         if not stat.S_ISREG(info.st_mode):
@@ -120,8 +120,8 @@ def _named(path: str, notation: Optional[Notation]) -> Source:
     except (OSError, ValueError) as why:
         return _faulty(path, own or "phh", os.path.basename(path), _why(why))
     if own is None:
-        raise ValueError(f"{cut.shown(path)}: neither its name nor its first bytes say a notation; "
-                         "--from says which it is")
+        raise ValueError(f"{texts.shown(path)}: neither its name nor its first bytes say a "
+                         "notation; --from says which it is")
     return Source(path, own, info.st_size, info.st_mtime_ns, os.path.basename(path))
 
 
@@ -135,7 +135,7 @@ def _inside(top: str, notation: Optional[Notation]) -> tuple[list[Source], int]:
         found.append(_faulty(name, "phh", os.path.relpath(name, top), _why(why)))
 
     for path in _below(top, fault):
-        own = cut.notation_of(path)
+        own = formats.notation_of(path)
         try:
             info = os.stat(path)
             if not stat.S_ISREG(info.st_mode):

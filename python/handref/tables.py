@@ -101,7 +101,7 @@ def lines_of(data: bytes) -> list[int]:
 
 
 def verdict(hand: Optional[int], line: Optional[int],
-            error: Optional[handref.NotDone]) -> dict[str, Value]:
+            error: Optional[handref.HandrefError]) -> dict[str, Value]:
     """The row of a hand that is legal, or that is not for a reason."""
     row: dict[str, Value] = dict.fromkeys(COLUMNS["judge"])
     row.update(hand=hand, line=line, verdict="legal")

@@ -3,7 +3,7 @@ import os
 import re
 
 import handref
-from handref import NotDone, Piece, UnclearOutput, cut, phhs, tables
+from handref import HandrefError, Piece, UnclearOutput, phhs, single_hands, tables
 from handref.journal import Answer, Call
 from handref.sources import Region, Source
 
@@ -21,22 +21,22 @@ def work(region: Region, call: Call, part: str) -> Answer:
             _replayed(region, call, data, answer, part)
         else:
             _summed(region, call, data, answer)
-    except NotDone as error:
-        if cut.is_of_the_call(error):
+    except HandrefError as error:
+        if single_hands.is_of_the_call(error):
             raise
-        _tell(answer, error, data, region.source)
+        _note(answer, error, data, region.source)
     return answer
 
 
-def _tell(answer: Answer, error: NotDone, data: bytes, source: Source) -> None:
+def _note(answer: Answer, error: HandrefError, data: bytes, source: Source) -> None:
     """Notes what is wrong with a piece, with its line in a log."""
     places = tables.lines_of(data) if source.notation == "acpc" else []
     line = places[error.hand - 1] if error.hand and places else error.line_number
-    answer.told.append((error.hand, line, status_of(error), error.line))
+    answer.problems.append((error.hand, line, status_of(error), error.line))
     answer.is_killed = error.status < 0
 
 
-def status_of(error: NotDone) -> int:
+def status_of(error: HandrefError) -> int:
     """A signal means what 8 means: the input asks for more than it was given."""
     return error.status if error.status > 0 else 8
 
@@ -59,49 +59,51 @@ def judged(region: Region, call: Call) -> Answer:
     words = ["judge", "--from", source.notation, *_game(source, call)]
     try:
         text = handref.run(words, data)
-    except NotDone as error:
-        return _told_apart(data, region, call, error, answer)
+    except HandrefError as error:
+        return _judged_apart(data, region, call, error, answer)
     end = re.search(rb"(?:\A|\n)legal hands: (\d+) of (\d+)\n\Z", text)
     if not end:
         raise UnclearOutput(0, "the output of judge is cut", file=source.path)
     answer.legal, answer.hands = int(end[1]), int(end[2])
     if answer.legal < answer.hands:
-        _tell_refused(answer, text, data, source)
+        _note_refused(answer, text, data, source)
     return answer
 
 
-def _tell_refused(answer: Answer, text: bytes, data: bytes, source: Source) -> None:
+def _note_refused(answer: Answer, text: bytes, data: bytes, source: Source) -> None:
     """Notes the verdicts on the hands that are refused, with their lines in a log."""
     places = tables.lines_of(data) if source.notation == "acpc" else []
     for hand, why in re.findall(rb"^hand (\d+): (?!legal$)(.*)$", text, re.M):
-        answer.told.append((int(hand), places[int(hand) - 1] if places else None, 1,
+        answer.problems.append((int(hand), places[int(hand) - 1] if places else None, 1,
                             f"refused: hand {int(hand)}: {why.decode()}"))
 
 
-def _told_apart(data: bytes, region: Region, call: Call, error: NotDone, answer: Answer) -> Answer:
+def _judged_apart(data: bytes, region: Region, call: Call, error: HandrefError,
+                  answer: Answer) -> Answer:
     """The verdicts where a piece is not judged as a whole: hand by hand, if all are wanted."""
-    if cut.is_of_the_call(error):
+    if single_hands.is_of_the_call(error):
         raise error
     hands: list[Piece] = []
     if call.keep_going and error.status in (3, 7, 8) or error.status < 0:
         try:
-            hands = cut.units(data, region.source.notation)
-        except (ValueError, NotDone):
+            hands = single_hands.units(data, region.source.notation)
+        except (ValueError, HandrefError):
             pass  # a document of PHH that is no TOML, or a hand that is longer than an input
     answer.is_killed = error.status < 0
     if len(hands) < 2:
         answer.hands = max(1, len(hands))
-        answer.told.append((error.hand, error.line_number, status_of(error), error.line))
+        answer.problems.append((error.hand, error.line_number, status_of(error), error.line))
         return answer
-    found = cut.verdicts(hands, _game_of(region, call))
+    found = single_hands.verdicts(hands, _game_of(region, call))
     answer.hands, answer.legal = len(hands), found.count(None)
     for hand, refused in zip(hands, found):
         if refused:
-            said = cut.told(refused, hand)
+            said = single_hands.in_its_file(refused, hand)
             place = hand.hands_before + 1
-            answer.told.append((place, said.line_number, status_of(said), said.line))
+            answer.problems.append((place, said.line_number, status_of(said), said.line))
     if len(found) < len(hands):
-        answer.told.append((None, None, 3, f"{len(hands) - len(found)} hands after them are left"))
+        answer.problems.append(
+            (None, None, 3, f"{len(hands) - len(found)} hands after them are left"))
     return answer
 
 
@@ -129,8 +131,8 @@ def _replayed(region: Region, call: Call, data: bytes, answer: Answer, part: str
     if not (re.search(end, text) if text else _is_empty(region, call, data)):
         raise UnclearOutput(0, "the output of replay is cut", file=source.path)
     answer.hands = len(re.findall(rb"^hand \d+ ", text, re.M))
-    _tell_refused(answer, text, data, source)
-    answer.legal = answer.hands - len(answer.told)
+    _note_refused(answer, text, data, source)
+    answer.legal = answer.hands - len(answer.problems)
     _write(part, text)
 
 

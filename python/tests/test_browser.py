@@ -9,7 +9,7 @@ import unittest
 from pages import EXAMPLES, HERE, LOG, MATCH, NAMES, Case, Parsed, named
 
 import handref
-from handref import cut, page, toml
+from handref import formats, page, single_hands, toml
 
 BROWSERS = ("chromium-headless-shell", "chromium", "chromium-browser", "google-chrome")
 CASES = HERE.parent.parent / "tests" / "cases"
@@ -110,12 +110,13 @@ class Browser(Case):
         if not CASES.exists():
             self.skipTest("the folder cases is not here")
         games = self.games()
-        self.assertEqual(set(games), set(cut.GAMES))
-        hands = cut.together([cut.document(games[code]) for code in cut.GAMES], "phh")
+        self.assertEqual(set(games), set(formats.GAMES))
+        hands = single_hands.together(
+            [single_hands.document(games[code]) for code in formats.GAMES], "phh")
         replayed = "\n".join(self.lines(hands, "phh")).split("hand ")[1:]
         walked = self.walked(self.made(hands, "phh"))
         self.assertEqual(len(walked), 11)
-        for (head, said, wide), name, wanted in zip(walked, cut.GAMES.values(), replayed):
+        for (head, said, wide), name, wanted in zip(walked, formats.GAMES.values(), replayed):
             lines = wanted.strip("\n").split("\n")[1:]
             events = [line for line in lines if line[0].isdigit()]
             self.assertEqual(head.partition(": ")[2], name)

@@ -75,7 +75,7 @@ class Each(Case):
             for game in sorted(EXAMPLES.glob("*.game")) if notation == "acpc" else [None]:
                 try:
                     verdicts = handref.judge(path, notation, game) if notation else []
-                except handref.NotDone:
+                except handref.HandrefError:
                     continue  # it does not read, or is not of this game
                 for verdict in verdicts if len(verdicts) == 1 else ():
                     if verdict.refused:

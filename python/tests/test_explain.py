@@ -74,7 +74,7 @@ class Document(Case):
         for command, line, status in self.examples():
             with self.subTest(command=command, line=line):
                 found, _ = self.explained(command, line)
-                error = handref.not_done(status, line)
+                error = handref.error_of(status, line)
                 self.assertEqual((found.status, found.line), (status, line))
                 self.assertGreater(len(found.meaning), 10)
                 self.assertIn(line, str(found))
@@ -126,7 +126,7 @@ class Document(Case):
                 try:
                     hands = len(handref.check(path, notation))
                     self.assertIn(f"nothing is wrong: {hands} hand", str(found))
-                except handref.NotDone as error:
+                except handref.HandrefError as error:
                     self.assertEqual(found.line, error.line)
                     self.assertTrue(found.spot and found.facts and found.meaning)
 
@@ -185,7 +185,7 @@ class Texts(Case):
                              ("variant = 'NT'", "--from phh")):
             with self.subTest(wanted=wanted):
                 self.assertIn(wanted, self.why(data.encode(), "ohh")[1])
-                with self.assertRaises(handref.NotDone):
+                with self.assertRaises(handref.HandrefError):
                     handref.check(data.encode(), "ohh")
 
 
@@ -211,7 +211,7 @@ class Games(Case):
                 self.assertIn(old, text)
                 game = self.folder / "own.game"
                 game.write_text(text.replace(old, new, 1))
-                with self.assertRaises(handref.NotDone) as told:
+                with self.assertRaises(handref.HandrefError) as told:
                     handref.check(EXAMPLES / "match.acpc", "acpc", game)
                 found = explain.explain(EXAMPLES / "match.acpc", "acpc", game, told.exception.line)
                 self.assertEqual(found.spot.line, told.exception.line_number)
@@ -318,7 +318,7 @@ class Places(Case):
     def test_json(self):
         text = (EXAMPLES / "rake.ohh").read_text()
         line = "bad input: hand 1, ohh.rounds[0].actions[2].cards[1]: WrongType"
-        error = handref.not_done(3, line)
+        error = handref.error_of(3, line)
         found = places.of(text.encode(), "ohh", error)
         self.assertEqual(found.text[found.column - 1:found.column + 3], f'"{found.value}"')
 

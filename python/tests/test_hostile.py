@@ -263,7 +263,7 @@ class OddInputs(Case):
                 (str(self.folder / "absent"), "phh", FileNotFoundError)):
             for call in (handref.check, handref.judge, handref.report, handref.session):
                 with self.subTest(hands=hands[:40], call=call.__name__):
-                    error = handref.NotDone if isinstance(wanted, str) else wanted
+                    error = handref.HandrefError if isinstance(wanted, str) else wanted
                     with self.assertRaises(error) as caught:
                         call(hands, notation)
                     if isinstance(wanted, str):
@@ -279,7 +279,7 @@ class Packed(Case):
                            (sources._HAND_LINE, b"\n" + b"x" * (size - 2) + b"\n")):
             self.assertEqual(sum(map(len, phhs.bounded(io.BytesIO(text * 20), ends, ""))),
                              20 * size)
-            with self.assertRaises(handref.NotDone):
+            with self.assertRaises(handref.HandrefError):
                 list(phhs.bounded(io.BytesIO(text.replace(b"\n", b"x").replace(b"[", b"x") * 20),
                                   ends, ""))
 
@@ -293,7 +293,7 @@ class Packed(Case):
                 found = list(handref.pieces((one + some) * 9, notation))
                 self.assertEqual(b"".join(piece.data for piece in found).strip(),
                                  ((one + some) * 9).strip())
-                with self.assertRaises(handref.NotDone) as caught:
+                with self.assertRaises(handref.HandrefError) as caught:
                     list(handref.pieces(one + many + one, notation))
                 self.assertEqual((caught.exception.status, caught.exception.line),
                                  (7, "limit: input bytes 4000"))
@@ -303,7 +303,7 @@ class Packed(Case):
                     found = list(sources._blocks(file, notation))
                     self.assertEqual([len(data) > 4000 for data in found], [False, True])
                     self.assertLess(file.tell(), 10_000)
-                with self.assertRaises(handref.NotDone):
+                with self.assertRaises(handref.HandrefError):
                     list(phhs.bounded(io.BytesIO(one + idle * 3_000_000), ends, ""))
 
     def test_help_to_a_full_device(self):
@@ -329,7 +329,7 @@ class Packed(Case):
             # ru_maxrss would begin with that of the process of the tests.
             script = ("import handref, re, sys\ntry:\n    "
                       "print(sum(1 for _ in handref.pieces(sys.argv[1], sys.argv[2])))\n"
-                      "except handref.NotDone as error:\n    print(error.status)\n"
+                      "except handref.HandrefError as error:\n    print(error.status)\n"
                       "print(re.search(r'VmHWM:\\s*(\\d+)', open('/proc/self/status').read())[1])")
             kind = {".acpc": "acpc", ".ohh": "ohh"}.get(Path(name).suffix)
             if kind:
@@ -406,7 +406,7 @@ class OtherPrograms(Case):
                     with self.assertRaises((handref.NoProgram, handref.UnclearOutput)):
                         call(hand, "phh")
         for status in range(1, 16):
-            error = handref.not_done(status, "something else")
+            error = handref.error_of(status, "something else")
             self.assertIsInstance(error, handref.NoProgram)
         self.assertEqual(self.call("many", "check", EXAMPLES / "folds.phh",
                                    program="/bin/false")[0], 70)

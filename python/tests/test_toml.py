@@ -51,7 +51,7 @@ class Toml(Case):
         """Whether the program reads a document as TOML."""
         try:
             handref.judge(text.encode(), "phh")
-        except handref.NotDone as error:
+        except handref.HandrefError as error:
             return error.reason != "Text"
         return True
 

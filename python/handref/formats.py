@@ -1,0 +1,29 @@
+"""What the notations are called, the ends of the names of their files, the games, and the keys of
+PHH."""
+import re
+from typing import Optional
+
+import handref
+
+NOTATIONS: dict[str, handref.Notation] = {
+    ".phh": "phh", ".phhs": "phh", ".ohh": "ohh", ".ohh-to": "ohh-to", ".acpc": "acpc",
+    ".log": "acpc"}
+GAMES = {
+    "FT": "fixed-limit Texas hold'em", "NT": "no-limit Texas hold'em",
+    "NS": "no-limit short-deck hold'em", "PO": "pot-limit Omaha",
+    "FO/8": "fixed-limit Omaha eight-or-better", "F7S": "fixed-limit seven card stud",
+    "F7S/8": "fixed-limit stud eight-or-better", "FR": "fixed-limit razz",
+    "N2L1D": "no-limit deuce-to-seven single draw",
+    "F2L3D": "fixed-limit deuce-to-seven triple draw", "FB": "fixed-limit badugi"}
+# In the order in which `convert` writes them.
+PHH_KEYS: tuple[str, ...] = (
+    "variant", "starting_stacks", "antes", "ante_trimming_status", "blinds_or_straddles",
+    "bring_in", "small_bet", "big_bet", "min_bet", "actions", "finishing_stacks", "_rakes",
+    "players", "seats", "seat_count", "hand", "table", "venue", "currency", "year", "month",
+    "day", "time", "time_zone")
+
+
+def notation_of(path: str) -> Optional[handref.Notation]:
+    """The notation of a file by the end of its name, before .gz."""
+    name = re.sub(r"\.gz\Z", "", path)
+    return next((NOTATIONS[end] for end in NOTATIONS if name.endswith(end)), None)
