@@ -1,10 +1,7 @@
 """The words of `handref many` and `handref cents`, and what they do."""
 import argparse
 import errno
-import hashlib
-import json
 import os
-import shutil
 import sys
 from typing import Any, Optional
 
@@ -93,11 +90,8 @@ def run_many(given: argparse.Namespace) -> int:
         if shard[1] == 1:  # the call that takes all shards together says what they did
             print(text, file=told, flush=True)
 
-    journal = given.journal or (_own_journal(given) if given.resume else None)
-    asked = many.Asked(given.jobs, journal, shard, tell, sys.stderr, form)
+    asked = many.Asked(given.jobs, given.journal, given.resume, shard, tell, sys.stderr, form)
     result = many.run(given.path, call, asked, given.notation, getattr(given, "out", ""))
-    if given.resume and not given.journal and journal:
-        shutil.rmtree(journal, ignore_errors=True)
     if shard[1] > 1:
         return 0
     if given.task in ("check", "convert") and (given.keep_going or not result.status) or \
@@ -112,15 +106,6 @@ def _shard(text: Optional[str]) -> tuple[int, int]:
             and int(all_of_them) > 0):
         raise ValueError("--shard is I/N, as 3/16")
     return int(own), int(all_of_them)
-
-
-def _own_journal(given: argparse.Namespace) -> str:
-    """The folder of a call's notes, which goes away when the call is done: here, named after its
-    words."""
-    words = json.dumps([str(item) for item in sorted(vars(given).items())
-                        if item[0] not in ("jobs", "resume")])
-    name = hashlib.sha256(words.encode("utf-8", "backslashreplace")).hexdigest()[:12]
-    return f"handref-resume-{name}"
 
 
 def run_cents(given: argparse.Namespace) -> int:

@@ -12,13 +12,12 @@ class Progress:
         self.bytes = self.before = self.hands = self.bad = 0
         self.start = self.shown = time.monotonic()
 
-    def known(self, size: int) -> None:
-        """An earlier call has done these bytes."""
-        self.before += size
-
-    def done(self, size: int, hands: int) -> None:
-        """These bytes and hands are done now."""
-        self.bytes, self.hands = self.bytes + size, self.hands + hands
+    def done(self, size: int, hands: int, is_known: bool = False) -> None:
+        """These bytes and hands are done: now, or an earlier call has done them. The rates are of
+        what is done now."""
+        self.bytes += size
+        self.before += size if is_known else 0
+        self.hands += 0 if is_known else hands
         self.show()
 
     def tell(self, text: str, tell: Callable[[str], None]) -> None:

@@ -216,9 +216,8 @@ class Files:
         elif self.call.layout == "split":
             self._split(done)
         else:
-            out = os.path.join(self.out, done.source.out) if done.source.out else self.out
-            if not os.path.exists(out) or all(os.path.exists(part.path) for part in done.parts):
-                self._write(out, [done])
+            self._write(os.path.join(self.out, done.source.out) if done.source.out else self.out,
+                        [done])
 
     def finish(self) -> None:
         """Writes the one file of all."""

@@ -10,7 +10,7 @@ from dataclasses import dataclass, field, replace
 from typing import IO, BinaryIO, Callable, Iterator, Optional, Sequence, Union
 
 import handref
-from handref import Notation, Piece, formats, phhs, texts
+from handref import Notation, Piece, formats, outputs, phhs, texts
 
 # PIECE bytes of a log have fewer hands and moves than an input may have, whatever they are: a hand
 # takes 17 bytes or more, a move one. A hand of OHH or PHH that has a move takes far more.
@@ -22,6 +22,9 @@ _HAND_LINE = re.compile(rb"\n(?!#|SCORE:|\r?\n)(?=[\s\S]{6})")
 _PHH = re.compile(rb"(\A|\n)[ \t]*variant[ \t]*=[ \t]*[\"']")
 _OHH = re.compile(rb"\s*[\[{]\s*(\{\s*)?\"ohh\"\s*:")
 _LOG = re.compile(rb"(?:(?:#|SCORE:)[^\n]*\n|\r?\n)*STATE:\d*:")
+# What a call that was ended has left: hands that it has read already, or has written in part.
+_UNFINISHED = re.compile(
+    rf"(?:{re.escape(outputs.PART)}|{re.escape(outputs.JOURNAL)}(?:-[a-z]+)?)\Z")
 
 
 @dataclass(frozen=True)
@@ -135,6 +138,9 @@ def _inside(top: str, notation: Optional[Notation]) -> tuple[list[Source], int]:
         found.append(_faulty(name, "phh", os.path.relpath(name, top), _why(why)))
 
     for path in _below(top, fault):
+        if _UNFINISHED.search(path):
+            others += 1
+            continue
         own = formats.notation_of(path)
         try:
             info = os.stat(path)

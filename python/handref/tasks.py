@@ -8,17 +8,16 @@ from handref.journal import Answer, Call
 from handref.sources import Region, Source
 
 
-def work(region: Region, call: Call, part: str) -> Answer:
-    """What comes of a piece. What is written of it is the file `part`, whole or not at all."""
+def work(region: Region, call: Call, data: bytes) -> Answer:
+    """What comes of a piece with these bytes."""
     if call.command in ("check", "judge"):
-        return judged(region, call)
-    data = region.data(call.command == "convert")
+        return judged(region, call, data)
     answer = Answer(lines=data.count(b"\n"))
     try:
         if call.command == "convert":
-            _converted(region, call, data, answer, part)
+            _converted(region, call, data, answer)
         elif call.command == "replay":
-            _replayed(region, call, data, answer, part)
+            _replayed(region, call, data, answer)
         else:
             _summed(region, call, data, answer)
     except HandrefError as error:
@@ -52,9 +51,9 @@ def _game_of(region: Region, call: Call) -> handref.Game:
 
 # Judging.
 
-def judged(region: Region, call: Call) -> Answer:
+def judged(region: Region, call: Call, data: bytes) -> Answer:
     """The verdicts on the hands of a piece."""
-    data, source = region.data(), region.source
+    source = region.source
     answer = Answer(lines=data.count(b"\n"))
     words = ["judge", "--from", source.notation, *_game(source, call)]
     try:
@@ -109,7 +108,7 @@ def _judged_apart(data: bytes, region: Region, call: Call, error: HandrefError,
 
 # Converting, replaying.
 
-def _converted(region: Region, call: Call, data: bytes, answer: Answer, part: str) -> None:
+def _converted(region: Region, call: Call, data: bytes, answer: Answer) -> None:
     """Writes what a piece is in the other notation."""
     source = region.source
     words = ["convert", "--from", source.notation, "--to", str(call.to), *_game(source, call)]
@@ -119,10 +118,10 @@ def _converted(region: Region, call: Call, data: bytes, answer: Answer, part: st
             text.endswith(b"\n") if text else _is_empty(region, call, data)):
         raise UnclearOutput(0, "the output of convert is cut", file=source.path)
     answer.hands = answer.legal = hands
-    _write(part, text)
+    answer.text = text
 
 
-def _replayed(region: Region, call: Call, data: bytes, answer: Answer, part: str) -> None:
+def _replayed(region: Region, call: Call, data: bytes, answer: Answer) -> None:
     """Keeps the replay of a piece as it is."""
     source = region.source
     words = ["replay", "--from", source.notation, *_game(source, call), *["--each"] * call.each]
@@ -133,13 +132,7 @@ def _replayed(region: Region, call: Call, data: bytes, answer: Answer, part: str
     answer.hands = len(re.findall(rb"^hand \d+ ", text, re.M))
     _note_refused(answer, text, data, source)
     answer.legal = answer.hands - len(answer.problems)
-    _write(part, text)
-
-
-def _write(part: str, text: bytes) -> None:
-    with open(part + ".new", "wb") as file:
-        file.write(text)
-    os.replace(part + ".new", part)
+    answer.text = text
 
 
 def _hands(region: Region, data: bytes) -> int:

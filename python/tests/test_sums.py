@@ -172,7 +172,7 @@ class Sums(Case):
         self.assertIn("line 31, byte", self.told[0])
 
     def test_replay_each_goes_on(self):
-        """Pieces that a journal has are not replayed again, and are not mixed with others."""
+        """Pieces that a journal has are not replayed again."""
         log, journal = self.refused_log(), str(self.folder / "journal")
         with mock.patch.object(sources, "PIECE", 300):
             whole = self.run_("replay", log, each=True)
@@ -181,8 +181,6 @@ class Sums(Case):
             with mock.patch.object(handref, "run", side_effect=AssertionError):
                 again = self.run_("replay", log, each=True, journal=journal)
             self.assertEqual(again, whole)
-            with self.assertRaisesRegex(ValueError, "the journal of another call"):
-                self.run_("replay", log, journal=journal)
 
     def test_status_of_verdicts(self):
         """With status 1 each hand has a verdict; else the status says why some have none."""
