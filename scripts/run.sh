@@ -3,30 +3,69 @@
 # filters do.
 
 # shellcheck shell=sh
-slip=
+slip='' hands=''
 
 # Runs a program with words. It asks the C library for large pages, so that the kernel hands out
 # the memory of many hands in fewer pieces; a library that does not know them ignores this. The
-# shell stays only if the output is a pipe or a terminal, if a person at a terminal should see which
-# word is wrong, or if the caller asks for it (`stays`).
+# program replaces the shell where nothing can be left to say: not at a terminal, nor if the words
+# are no command, nor if the output is a pipe, nor if the caller asks for the shell (`stays`).
 run_program() {
     GLIBC_TUNABLES=glibc.malloc.hugetlb=1${GLIBC_TUNABLES:+:$GLIBC_TUNABLES}
     export GLIBC_TUNABLES
+    told=
     if [ -p /dev/stdout ]; then
         run_in_pipe "$@"
     elif [ -t 1 ] && [ "$(printf '\033\n' | shown 2>/dev/null)" = '\x1b' ]; then
         run_at_terminal "$@"
-    elif [ -z "${stays-}" ] && { [ ! -t 2 ] || wanted "$@"; }; then
+    elif [ -z "${stays-}" ] && [ ! -t 2 ] && wanted "$@"; then
         exec "$@"
+    elif { : >&1; } 2>/dev/null; then
+        { told=$("$@" 2>&1 >&3 3>&-) && ended=0 || ended=$?; } 3>&1
     else
         "$@"
         ended=$?
     fi
-    if [ "$ended" -eq 2 ] && [ -t 2 ] && ! wanted "$@"; then
-        printf 'handref: %s (%s)\n' "$slip" "${help_is-handref --help}" | shown >&2
-    fi
+    [ -z "$told" ] || printf '%s\n' "$told" >&2
+    say_more "$@"
     [ "$ended" -le 128 ] || die_of "$ended"
     exit "$ended"
+}
+
+# Says which word is wrong where the words are no command; and at a terminal what takes a file that
+# is over a limit of the input.
+say_more() {
+    case $ended:$told in
+    2:*) wanted "$@" || tell_slip ;;
+    7:'limit: input bytes '* | 7:'limit: hands '* | 7:'limit: moves of the file '*)
+        [ ! -t 2 ] || echo 'handref: handref many takes files of any length' >&2
+        ;;
+    esac
+}
+
+# Says which word is wrong, and where help is.
+tell_slip() {
+    printf 'handref: %s\n' "$slip (${help_is-handref --help})" | shown >&2
+}
+
+# Makes the file that the last word names the standard input.
+open_hands() {
+    why='it cannot be read'
+    [ -e "$hands" ] || why='there is no such file'
+    [ ! -d "$hands" ] || why='it is a folder, and handref many takes folders'
+    [ ! -d "$hands" ] && { command exec <"$hands"; } 2>/dev/null && return
+    printf 'handref: %s\n' "$hands: $why" | shown >&2
+    exit 5
+}
+
+# Calls a command without its last word.
+without_last() {
+    left=$#
+    for word in "$@"; do
+        shift
+        left=$((left - 1))
+        [ "$left" -eq 0 ] || set -- "$@" "$word"
+    done
+    "$@"
 }
 
 # Whether the words after a program are those of a command.
@@ -52,15 +91,20 @@ run_in_pipe() {
     fi
     exec 3>&-
     if [ "$ended" -eq 6 ] && has_no_reader; then die_of 141; fi
-    [ -z "$told" ] || printf '%s\n' "$told" >&2
 }
 
 # Runs a program whose output is a terminal. Names can have control characters, which the terminal
 # would obey.
 run_at_terminal() {
     exec 4>&1
-    ended=$({ { "$@" 3>&- 4>&-; echo "$?" >&3; } | shown >&4; } 3>&1)
+    told=$({
+        {
+            told=$("$@" 2>&1 >&5 3>&- 4>&- 5>&-)
+            printf '%s %s\n' "$?" "$told" >&3
+        } 5>&1 | shown >&4
+    } 3>&1)
     exec 4>&-
+    ended=${told%% *} told=${told#* }
 }
 
 # Shows control characters as `\x1b`, but for tabs and line ends.

@@ -1,7 +1,7 @@
 # Checks a command line before the program is called, and prints the help. ./handref, the
 # installed bin/handref and their tests read this file. `is_command` repeats the program's
 # definition of a command line in shell; scripts/documents compares the two. If it fails, `slip`
-# says what is wrong, for a person at a terminal.
+# says what is wrong, and `hands` is the last word where those before it are a command: a file.
 #
 # To add a command, put its name into `commands`, and a line into `options_of` and `help_text`. To
 # add an option, put a line into `take`.
@@ -75,7 +75,8 @@ FORMAT  phh     Poker Hand History (.phh and .phhs files)
 --no-notes      ignores names, dates and other notes
 An option can also be written --name=VALUE. Give each option once.
 
-Hands are read from standard input. The answer goes to standard output, and one line on standard error reports a fault.
+Hands are read from standard input, or from a file that is the last word: handref check --from phh FILE. The answer goes
+to standard output, and one line on standard error reports a fault. -h and help answer as --help.
 
 Status  0 done               1 a hand is refused      2 wrong command line   3 the input cannot be read as hands
         4 cannot be written  5 reading failed         6 writing failed       7 a limit is exceeded
@@ -97,19 +98,24 @@ usage_line() (
     printf 'usage: handref %s [options]\n' "$*"
 )
 
-# Whether the words ask for help: --help, help, or a command and --help. The program itself does
-# not have these, and the tools in Python have help of their own.
+# Whether the words ask for help: --help, -h or help, alone or with a command. The program itself
+# does not have these, and the tools in Python have help of their own.
 asks_for_help() {
     case $#:${1-}:${2-} in
     2:page:* | 2:many:* | 2:explain:* | 2:cents:*) return 1 ;;
-    1:--help: | 1:-h: | 1:help: | 2:[!-]*:--help | 2:[!-]*:-h) return 0 ;;
+    1:--help: | 1:-h: | 1:help: | 2:[!-]*:--help | 2:[!-]*:-h | 2:help:[!-]*) return 0 ;;
     esac
     return 1
 }
 
+# Whether the last word is a file of hands, after those of a command.
+names_file() {
+    ! is_command "$@" && [ -n "$hands" ]
+}
+
 # Whether the words are those of a command.
 is_command() {
-    slip='' given=' ' from='' to='' other='' game=''
+    slip='' hands='' given=' ' from='' to='' other='' game=''
     command=${1-}
     options_of "$command" || {
         case $command in
@@ -140,14 +146,21 @@ is_command() {
             esac
             ;;
         -) slip="'-' is not an option; standard input is read without it" && return 1 ;;
+        -*) slip="'$1' is not an option" && return 1 ;;
         *)
+            [ "$#" -gt 1 ] || [ "$command" = load ] || { is_whole || return 1; hands=$1; }
             slip="'$1' is not an option"
-            [ ! -e "$1" ] || slip="$slip; hands are read from standard input: < $1"
+            [ "$#" -eq 1 ] || [ ! -e "$1" ] || slip="$slip; the file of hands comes last"
             return 1
             ;;
         esac
         shift
     done
+    is_whole
+}
+
+# Whether the options that a command needs are given, and go together.
+is_whole() {
     for name in $needs; do
         case $given in *" $name "*) ;; *) slip="$command needs --$name" && return 1 ;; esac
     done
