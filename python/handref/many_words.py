@@ -1,6 +1,5 @@
 """The words of `handref many` and `handref cents`, and what they do."""
 import argparse
-import errno
 import os
 import sys
 from typing import Any, Optional
@@ -147,25 +146,3 @@ def _put(data: bytes, out: Optional[str], is_folder: bool) -> None:
     with outputs.written(out) as file:
         file.write(data)
 
-
-
-def no_room(fault: OSError) -> str:
-    """The line of a file that could not be written, or nothing if the fault is another one."""
-    if fault.errno not in (errno.ENOSPC, errno.EDQUOT, errno.EROFS, errno.EFBIG):
-        return ""
-    place = f"{texts.shown(str(fault.filename))}: " if fault.filename else ""
-    return f"{place}write fault: {(fault.strerror or str(fault)).lower()}"
-
-
-def run(given: argparse.Namespace) -> int:
-    """Runs `many` or `cents`. Status 6: nothing can be written."""
-    try:
-        return run_many(given) if given.command == "many" else run_cents(given)
-    except (handref.HandrefError, BrokenPipeError):
-        raise
-    except OSError as fault:
-        line = no_room(fault)
-        if not line:
-            raise
-        print(line, file=sys.stderr, flush=True)
-        return 6

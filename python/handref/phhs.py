@@ -1,7 +1,7 @@
 """Finds the hands of a long file of PHH, so that it can be cut between them.
 
-    with phhs.open_hands(path) as hands:
-        for start, end in hands.spans: ...
+    with open(path, "rb") as file:
+        for block in phhs.tables(file): ...
 
 A file of several hands is a document of TOML with a table for each, `[1]`, `[2]` and so on. A line
 that looks like such a header may also be inside a text of many lines or a list, so the document is
@@ -12,6 +12,7 @@ import gzip
 import mmap
 import os
 import re
+import shutil
 import tempfile
 from array import array
 from contextlib import contextmanager
@@ -39,6 +40,8 @@ _SHORT = {b'"': re.compile(rb"[\"\\\n]"), b"'": re.compile(rb"['\n]")}
 _LONG = {b'"': re.compile(rb"\\|\"\"\""), b"'": re.compile(rb"'''")}
 _RUN = {b'"': re.compile(rb'"{3,5}'), b"'": re.compile(rb"'{3,5}")}
 _HAND = re.compile(rb"^[ \t]*hand[ \t]*=", re.M)
+_LIKE_HEADER = re.compile(rb"\n[ \t]*\[[ \t]*[\"']?([0-9]{1,18})")
+_BLOCK = 1 << 22  # bytes that are read at a time
 NUMBER = re.compile(rb"\[[ \t]*[\"']?[0-9]")  # of a header, or of something else
 
 
@@ -52,10 +55,11 @@ class NotSure(ValueError):
 
 class Hands:
     """The hands of a file in the order of their numbers, each with its place in the file. A file
-    of one hand, which has no table for it, is not cut: `spans` has one place then."""
+    of one hand, which has no table for it, is not cut. Of the front of a file (where it is not
+    whole) the last hand may be cut, and what comes after a fault is not looked at."""
 
-    def __init__(self, data: Bytes) -> None:
-        self.data = data
+    def __init__(self, data: Bytes, is_whole: bool = True, lines_before: int = 0) -> None:
+        self.data, self.is_whole, self.lines_before = data, is_whole, lines_before
         self.numbers = array("q")
         self.starts = array("q")
         self.end = 0
@@ -71,18 +75,6 @@ class Hands:
         return self.starts[found], (self.starts[found + 1] if found + 1 < len(self.starts)
                                     else self.end)
 
-    def text(self, first: int, last: int, are_numbered: bool = False) -> bytes:
-        """A document of some of the hands. Where they are numbered, a hand without the key `hand`
-        gets the number that it has by default: its place in the whole file."""
-        found = []
-        for place in range(first, last):
-            start, end = self.span(place)
-            block = self.data[start:end]
-            found.append(numbered(block, place) if are_numbered and place else block)
-            if not found[-1].endswith(b"\n"):
-                found.append(b"\n")
-        return b"".join(found)
-
     # The walk.
 
     def _walk(self) -> bool:
@@ -95,8 +87,12 @@ class Hands:
         size = self.end = len(data)
         if at >= size or not _BRACKET.match(data, at):
             return False
-        while at < size:
-            at = self._statements(self._header(at))
+        try:
+            while at < size:
+                at = self._statements(self._header(at))
+        except NotSure:
+            if self.is_whole or len(self.numbers) < 2:
+                raise
         self._sort()
         return True
 
@@ -179,11 +175,15 @@ class Hands:
             self.order = array("q", sorted(self.order, key=numbers.__getitem__))
             for one, two in zip(self.order, self.order[1:]):
                 if numbers[one] == numbers[two]:
-                    raise self._not_sure(self.starts[max(one, two)],
-                                         f"the table [{numbers[two]}] is here a second time")
+                    raise self.twice(max(one, two))
+
+    def twice(self, table: int) -> NotSure:
+        """That a table has the number of an earlier one."""
+        return self._not_sure(self.starts[table],
+                              f"the table [{self.numbers[table]}] is here a second time")
 
     def _not_sure(self, at: int, why: str) -> NotSure:
-        return NotSure(1 + lines(self.data, at), why)
+        return NotSure(self.lines_before + 1 + lines(self.data, at), why)
 
 
 def lines(data: Bytes, end: int) -> int:
@@ -216,20 +216,86 @@ def has_number(block: bytes, body: int = 0) -> bool:
         return True  # the program says what is wrong with it
 
 
-@contextmanager
-def open_hands(path: "Union[str, os.PathLike[str]]") -> Iterator[Hands]:
-    """The hands of a file, packed or not. NotSure: it cannot be cut. HandrefError: a packed file
-    has no hand that ends within the limit of an input."""
-    with _plain_file(path) as file:
-        if os.fstat(file.fileno()).st_size == 0:
-            yield Hands(b"")
+def tables(file: IO[bytes]) -> Iterator[bytes]:
+    """The tables of the hands of a file in the order of their numbers, the first ones while the
+    rest is not yet read; nothing if it is not cut. NotSure: it cannot be cut further."""
+    if os.fstat(file.fileno()).st_size > handref.MOST_BYTES and _ascends(file):
+        yield from _in_parts(file)
+        return
+    with _own_map(file) as data:
+        hands = Hands(data)
+        for place in range(len(hands)):
+            start, end = hands.span(place)
+            yield data[start:end]
+
+
+def _ascends(file: IO[bytes]) -> bool:
+    """Whether the numbers of all lines that look like a header ascend: then those of the headers
+    among them do."""
+    last, rest = -1, b"\n"
+    file.seek(0)
+    while block := file.read(_BLOCK):
+        block = rest + block
+        end = max(block.rfind(b"\n"), len(block) - 1000)
+        for found in map(int, _LIKE_HEADER.findall(block, 0, end)):
+            if found < last:
+                return False
+            last = found
+        rest = block[end:]
+    return all(last <= number for number in map(int, _LIKE_HEADER.findall(rest)))
+
+
+def _in_parts(file: IO[bytes]) -> Iterator[bytes]:
+    """The tables of a long file whose numbers ascend. What is read is walked up to its last header;
+    from there on it is walked again with what comes after it."""
+    data, lines_before, last = b"", 0, -1
+    file.seek(0)
+    while True:
+        more = file.read(_BLOCK)
+        data += more
+        try:
+            hands = Hands(data, not more, lines_before)
+        except NotSure:
+            if not more or len(data) > handref.MOST_BYTES + _BLOCK:
+                raise
+            continue
+        if not hands.is_cut:
+            if more and len(data) <= handref.MOST_BYTES:
+                continue  # its first table may begin in what comes
             return
-        with mmap.mmap(file.fileno(), 0, access=mmap.ACCESS_READ) as data:
-            yield Hands(data)
+        whole = len(hands) - bool(more)
+        if not whole and len(data) - hands.starts[0] > handref.MOST_BYTES:
+            raise handref.error_of(7, f"limit: input bytes {handref.MOST_BYTES}")
+        for place in range(whole):
+            if hands.numbers[place] <= last:
+                raise hands.twice(place)
+            last = hands.numbers[place]
+            start, end = hands.span(place)
+            yield data[start:end]
+        if not more:
+            return
+        end = hands.starts[whole]
+        lines_before, data = lines_before + lines(data, end), data[end:]
 
 
 @contextmanager
-def _plain_file(path: "Union[str, os.PathLike[str]]") -> Iterator[IO[bytes]]:
+def _own_map(file: IO[bytes]) -> Iterator[Bytes]:
+    """The bytes of a file; of a long one those of a copy that nobody else can cut short meanwhile."""
+    file.seek(0)
+    if os.fstat(file.fileno()).st_size <= handref.MOST_BYTES:
+        yield file.read()
+        return
+    with tempfile.TemporaryFile() as copy:
+        shutil.copyfileobj(file, copy, 1 << 20)
+        copy.flush()
+        with mmap.mmap(copy.fileno(), 0, access=mmap.ACCESS_READ) as data:
+            yield data
+
+
+@contextmanager
+def plain_file(path: "Union[str, os.PathLike[str]]") -> Iterator[IO[bytes]]:
+    """A file, unpacked if it is packed. HandrefError: what is packed has no hand that ends within
+    the limit of an input."""
     if not os.fspath(path).endswith(".gz"):
         with open(path, "rb") as file:
             yield file

@@ -32,8 +32,9 @@ class Done:
 
 
 class Output:
-    """Rows and lines for the standard output. They are kept in a file until all is done, so that
-    nothing is written where a file is refused; with --keep-going they go out as they come."""
+    """Rows and lines for the standard output. Verdicts go out as they come, and with --keep-going
+    all rows do; else they are kept in a file until all is done, so that nothing is written where a
+    file is refused."""
 
     def __init__(self, out: BinaryIO, is_kept: bool) -> None:
         self.out = out
@@ -42,6 +43,11 @@ class Output:
     def write(self, text: str) -> None:
         """Writes a line or more."""
         self.kept.write(text.encode("utf-8", "backslashreplace"))
+
+    def flush(self) -> None:
+        """Shows the lines that were written, unless they are kept."""
+        if self.kept is self.out:
+            self.out.flush()
 
     def finish(self) -> None:
         """Writes what was kept."""

@@ -7,10 +7,11 @@ import sys
 import tempfile
 import zlib
 from dataclasses import dataclass, field, replace
+from functools import cached_property
 from typing import IO, BinaryIO, Callable, Iterator, Optional, Sequence, Union
 
 import handref
-from handref import Notation, Piece, formats, outputs, phhs, texts
+from handref import Notation, Piece, faults, formats, outputs, phhs, texts
 
 # PIECE bytes of a log have fewer hands and moves than an input may have, whatever they are: a hand
 # takes 17 bytes or more, a move one. A hand of OHH or PHH that has a move takes far more.
@@ -37,11 +38,21 @@ class Source:
     out: str = ""
     fault: str = ""
     name: str = ""  # what it is called, where that is not its path
+    inode: int = 0  # of a file that others can write
 
-    @property
+    @cached_property
     def shown(self) -> str:
         """The name on a line: signs that are not seen, or end it, are written as numbers."""
         return texts.shown(self.name or self.path)
+
+    def is_changed(self) -> bool:
+        """Whether another file has its name by now, or others have written to it."""
+        try:
+            info = os.stat(self.path)
+        except OSError:
+            return self.inode > 0
+        return self.inode > 0 and (info.st_size, info.st_mtime_ns, info.st_ino) != (
+            self.size, self.changed, self.inode)
 
 
 @dataclass(frozen=True)
@@ -102,9 +113,13 @@ def _standard_input(notation: Optional[Notation]) -> Source:
     file = tempfile.NamedTemporaryFile(prefix="handref-")
     _HELD.append(file)
     ends = {"phh": phhs.NUMBER, "acpc": _HAND_LINE}.get(notation, _HAND_END)
-    for block in phhs.bounded(sys.stdin.buffer, ends, "standard input"):
-        file.write(block)
-    file.flush()
+    try:
+        for block in phhs.bounded(sys.stdin.buffer, ends, "standard input"):
+            file.write(block)
+        file.flush()
+    except OSError as fault:
+        place = file.name if faults.no_room(fault) else "standard input"
+        raise OSError(fault.errno, fault.strerror, place) from fault
     return Source(file.name, notation, os.path.getsize(file.name), 0, f"stdin.{notation}",
                   name="standard input")
 
@@ -125,7 +140,7 @@ def _named(path: str, notation: Optional[Notation]) -> Source:
     if own is None:
         raise ValueError(f"{texts.shown(path)}: neither its name nor its first bytes say a "
                          "notation; --from says which it is")
-    return Source(path, own, info.st_size, info.st_mtime_ns, os.path.basename(path))
+    return _found(path, own, info, os.path.basename(path))
 
 
 def _inside(top: str, notation: Optional[Notation]) -> tuple[list[Source], int]:
@@ -156,8 +171,7 @@ def _inside(top: str, notation: Optional[Notation]) -> tuple[list[Source], int]:
             continue
         if notation and own[:3] == notation[:3]:
             own = notation  # --from says which dialect the files of OHH are in
-        found.append(Source(path, own, info.st_size, info.st_mtime_ns,
-                            os.path.relpath(path, top)))
+        found.append(_found(path, own, info, os.path.relpath(path, top)))
     return sorted(found, key=lambda source: natural(source.out)), others
 
 
@@ -181,6 +195,10 @@ def _below(top: str, fault: Callable[[OSError], None]) -> Iterator[str]:
                 yield entry.path
             elif not entry.is_symlink():
                 left.append(entry.path)
+
+
+def _found(path: str, notation: Notation, info: os.stat_result, out: str) -> Source:
+    return Source(path, notation, info.st_size, info.st_mtime_ns, out, inode=info.st_ino)
 
 
 def _faulty(path: str, notation: Notation, out: str, fault: str) -> Source:
@@ -236,27 +254,29 @@ def regions(source: Source, is_written: bool = False) -> Iterator[Region]:
 def _of_tables(source: Source) -> Iterator[Region]:
     """The pieces of a file of PHH, in the order of the numbers of its hands."""
     is_packed = source.path.endswith(".gz")
+    kept: list[bytes] = []
+    first = size = number = 0
     try:
-        with phhs.open_hands(source.path) as hands:
-            if not hands.is_cut or hands.end <= PIECE:
-                data = hands.data[:handref.MOST_BYTES + 1]
-                yield Region(source, 0, 0, source.size, Piece(data, "phh", 0, 0, 0))
+        with phhs.plain_file(source.path) as file:
+            length = os.fstat(file.fileno()).st_size
+            try:
+                for place, block in enumerate(phhs.tables(file) if length > PIECE else ()):
+                    if kept and size + len(block) > PIECE:
+                        yield Region(source, number, first, 0 if is_packed else size, None, kept,
+                                     first)
+                        kept, first, size, number = [], place, 0, number + 1
+                    kept.append(block if block.endswith(b"\n") else block + b"\n")
+                    size += len(block)
+            except phhs.NotSure:
+                if length > handref.MOST_BYTES:
+                    raise
+                kept = []  # no piece was given: a file within the limit is walked first
+            if kept:
+                yield Region(source, number, first, 0 if is_packed else size, None, kept, first)
                 return
-            kept: list[bytes] = []
-            first = size = number = 0
-            for place in range(len(hands)):
-                start, end = hands.span(place)
-                if kept and size + end - start > PIECE:
-                    yield Region(source, number, first, 0 if is_packed else size, None, kept, first)
-                    kept, first, size, number = [], place, 0, number + 1
-                block = hands.data[start:end]
-                kept.append(block if block.endswith(b"\n") else block + b"\n")
-                size += end - start
-            yield Region(source, number, first, 0 if is_packed else size, None, kept, first)
-    except phhs.NotSure:
-        if source.size > handref.MOST_BYTES or is_packed:
-            raise
-        yield Region(source, 0, 0, source.size)
+            file.seek(0)
+            data = file.read(handref.MOST_BYTES + 1)
+            yield Region(source, 0, 0, source.size, Piece(data, "phh", 0, 0, 0))
     except (EOFError, gzip.BadGzipFile, zlib.error) as fault:
         raise OSError(0, str(fault)) from fault
 

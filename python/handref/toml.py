@@ -10,7 +10,7 @@ Python reads TOML from 3.11 on, in its version 1.0, and without places. Numbers 
 import datetime
 import re
 from dataclasses import dataclass
-from decimal import Decimal
+from decimal import Decimal, InvalidOperation
 from typing import Any, Callable, NoReturn, Optional, Union
 
 Step = Union[str, int]
@@ -374,13 +374,27 @@ def _of_word(word: str) -> Any:
     if _BASED.match(word):
         return int(word.replace("_", ""), 0)
     if _FLOAT.match(word):
-        return Decimal(word.replace("_", ""))
+        return _decimal(word.replace("_", ""))
     if word.lstrip("+-") in ("inf", "nan") and len(word) < 5:
         return float(word)
     try:
         return _of_time(word)
     except ValueError:
         return None
+
+
+def _decimal(word: str) -> Union[Decimal, float]:
+    """A number with a fraction or an exponent; inf where it is out of every range as well. One that
+    is too near to 0 for a Decimal is another one near to it."""
+    try:
+        value = Decimal(word)
+    except InvalidOperation:
+        mantissa, _, exponent = word.lower().partition("e")
+        value = Decimal(mantissa)
+        value = value and value.scaleb(-1000 if exponent.startswith("-") else 1000)
+    if value and value.adjusted() > 900:
+        return float("-inf" if value < 0 else "inf")
+    return value
 
 
 def _of_time(word: str) -> Any:

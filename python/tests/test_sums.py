@@ -216,7 +216,7 @@ class Documents(Case):
             data = (text + HAND + f"[10]\n{HAND}[2]\n{HAND}").encode()
             hands = phhs.Hands(data)
             self.assertEqual(list(hands.numbers), [1, 10, 2])
-            self.assertEqual(hands.text(1, 2), f"[2]\n{HAND}".encode())
+            self.assertEqual(data[slice(*hands.span(1))], f"[2]\n{HAND}".encode())
 
     def test_not_sure(self):
         for text, line in (('[1]\na = "x\n[2]\n', 2), ("[1]\na = [\n[2]\n", 2),
