@@ -38,7 +38,8 @@ class Answer:
     rows: list[list[Any]] = field(default_factory=list)
     text: Optional[bytes] = None
     part: str = ""  # the file in which the text is kept until it is put in its place
-    is_killed: bool = False  # by a signal, or its time was over: it is tried again
+    is_killed: bool = False  # by a signal: it is tried again
+    is_late: bool = False  # its time was over: it is tried again
     is_known: bool = False  # an earlier call has done it
 
     def is_done(self, call: "Call") -> bool:

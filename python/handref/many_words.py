@@ -59,6 +59,8 @@ def _task(command: argparse.ArgumentParser, name: str) -> None:
     option("-j", "--jobs", type=int, metavar="N", help="pieces at a time; else the processors")
     option("-k", "--keep-going", action="store_true",
            help="goes on after a file that is refused")
+    option("--time", type=int, default=60, metavar="SECONDS",
+           help="the most for a piece, 60: one that takes longer is named and left out")
     option("--resume", action="store_true",
            help="goes on after an interrupt: notes what is done, until all is done")
     option("--journal", metavar="FOLDER", help="notes what is done there, and keeps the notes")
@@ -73,6 +75,8 @@ def run_many(given: argparse.Namespace) -> int:
         raise ValueError("--shard needs --journal")
     if given.jobs is not None and given.jobs < 1:
         raise ValueError("-j is 1 or more")
+    if given.time < 1:
+        raise ValueError("--time is 1 second or more")
     layout = "each"
     if given.task == "convert":
         layout = "join" if given.join else "split" if given.split else layout
@@ -89,7 +93,8 @@ def run_many(given: argparse.Namespace) -> int:
         if shard[1] == 1:  # the call that takes all shards together says what they did
             print(text, file=told, flush=True)
 
-    asked = many.Asked(given.jobs, given.journal, given.resume, shard, tell, sys.stderr, form)
+    asked = many.Asked(given.jobs, given.journal, given.resume, shard, tell, sys.stderr, form,
+                       seconds=given.time)
     result = many.run(given.path, call, asked, given.notation, getattr(given, "out", ""))
     if shard[1] > 1:
         return 0

@@ -322,6 +322,14 @@ def bounded(file: "Union[BinaryIO, gzip.GzipFile]", ends: "re.Pattern[bytes]",
             raise handref.error_of(7, f"limit: input bytes {handref.MOST_BYTES}", name)
 
 
+def counted(text: bytes) -> int:
+    """How many hands a document has; 1 if it is not sure."""
+    try:
+        return len(Hands(text)) or 1
+    except NotSure:
+        return 1
+
+
 def blocks(text: bytes) -> Iterator[tuple[Optional[int], bytes]]:
     """The hands of a document with the numbers of their tables: a hand without a table has none."""
     hands = Hands(text)

@@ -23,8 +23,17 @@ def work(region: Region, call: Call, data: bytes) -> Answer:
     except HandrefError as error:
         if single_hands.is_of_the_call(error):
             raise
+        if error.place == "seconds":
+            return _late(region, data, error)
         _note(answer, error, data, region.source)
     return answer
+
+
+def _late(region: Region, data: bytes, error: HandrefError) -> Answer:
+    """That a piece takes too long, with the number of its hands."""
+    hands = _hands(region, data) if region.source.notation != "phh" else \
+        len(region.blocks or ()) or phhs.counted(data)
+    return Answer(hands, 0, data.count(b"\n"), [(None, None, 7, error.line)], is_late=True)
 
 
 def _note(answer: Answer, error: HandrefError, data: bytes, source: Source) -> None:
@@ -82,6 +91,8 @@ def _judged_apart(data: bytes, region: Region, call: Call, error: HandrefError,
     """The verdicts where a piece is not judged as a whole: hand by hand, if all are wanted."""
     if single_hands.is_of_the_call(error):
         raise error
+    if error.place == "seconds":
+        return _late(region, data, error)
     hands: list[Piece] = []
     if call.keep_going and error.status in (3, 7, 8) or error.status < 0:
         try:

@@ -237,5 +237,47 @@ class Written(Case):
             self.assertEqual(len(rest), 88 if order < 0 else 0)
 
 
+class Late(Case):
+    """A piece that takes longer than it may is named and left out, and the others are done."""
+
+    def slow(self, sign):
+        """A program that does not come to an end for hands with this text."""
+        self.stub(f"cat > \"$0.$$\"; ! grep -q '{sign}' \"$0.$$\" || exec sleep 1000; exec \"$handref\" \"$@\" < \"$0.$$\"")
+
+    def test_file(self):
+        self.hands("a.phh", "c.phh")
+        self.hands("b.phh", text=HAND + "# slow\n")
+        self.slow("slow")
+        for task, more in (("check", ()), ("convert", ("--to", "ohh", "--out", "../out"))):
+            status, text, told = self.call("many", task, "-k", "--time", "4", *more, ".")
+            self.assertEqual((status, told), (7, ""))
+            self.assertEqual(text.split("\n")[:4], ["./b.phh: limit: seconds 4 (from hand 1 on)", "legal hands: 2 of 3",
+                                                    "legal files: 2 of 3", "       1 seconds"])
+        self.assertEqual(sorted(os.listdir(self.folder.parent / "out")), ["a.ohh", "c.ohh"])
+        status, text, told = self.call("many", "judge", "-k", "--json", "--time", "4", ".")
+        rows = [json.loads(line) for line in text.split("\n") if line]
+        self.assertEqual((status, [row["said"] for row in rows if row["file"] == "./b.phh"]), (7, ["limit: seconds 4"]))
+
+    def test_piece(self):
+        """The hands after a piece that was left out keep their numbers and their lines."""
+        lines = [LINE % (number, "A|B") for number in range(40)]
+        lines[35] = lines[35].replace("r300", "r150")
+        (self.folder / "a.acpc").write_text("".join(lines))
+        self.slow("STATE:10:")
+        status, text, _ = self.call("many", "check", "-k", "--time", "4", "--resume", "--game", MATCH, "a.acpc",
+                                    first="sources.PIECE = 300")
+        said = text.split("\n")
+        self.assertEqual(said[:3], ["a.acpc: limit: seconds 4 (from hand 10 on)",
+                                    "a.acpc: refused: hand 36: event 3, action 1: RaiseTooSmall (line 36)",
+                                    "legal hands: 31 of 40"])
+        self.assertEqual(status, 7)
+
+    def test_words(self):
+        self.hands("a.phh")
+        self.assertEqual(self.call("many", "check", "--time", "0", "a.phh"),
+                         (2, "", "--time is 1 second or more\n"))
+        self.assertEqual(self.call("many", "check", "--time", "600", "a.phh")[0], 0)
+
+
 if __name__ == "__main__":
     unittest.main()
