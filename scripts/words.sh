@@ -60,7 +60,7 @@ Tools in Python around the proved program (try --help after each):
   handref page FILE OUT                                  an HTML page that shows the hands of a file
   handref many COMMAND [OPTION..] PATH..                 folders and files of any length, on all processors
   handref explain FILE [LINE]                            where a fault is, what it means, what would be legal
-  handref cents FILE..                                   turns decimal amounts into whole cents
+  handref import --out FOLDER PATH..                     files of sites, trackers and dealers, as handref reads them
 
 FORMAT  phh     Poker Hand History (.phh and .phhs files)
         ohh     Open Hand History; the amount of a raise is the chips that are added
@@ -102,7 +102,7 @@ usage_line() (
 # does not have these, and the tools in Python have help of their own.
 asks_for_help() {
     case $#:${1-}:${2-} in
-    2:page:* | 2:many:* | 2:explain:* | 2:cents:*) return 1 ;;
+    2:page:* | 2:many:* | 2:explain:* | 2:import:*) return 1 ;;
     1:--help: | 1:-h: | 1:help: | 2:[!-]*:--help | 2:[!-]*:-h | 2:help:[!-]*) return 0 ;;
     esac
     return 1

@@ -269,7 +269,7 @@ def _of_value(error: HandrefError, notation: handref.Notation, found: Spot) -> l
         else "a whole number" if isinstance(value, int) else "a number with a fraction"
     said = [f"{error.place} is {kind}: {shown(_brief(value))}"]
     if reason == "AmountNotWhole":
-        said.append("handref cents FILE multiplies the amounts of a file by 100.")
+        said.append("handref import writes all amounts of a file as whole chips.")
     return said
 
 

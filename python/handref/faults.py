@@ -11,10 +11,10 @@ _ROOM = (errno.ENOSPC, errno.EDQUOT, errno.EROFS, errno.EFBIG)
 
 def bug(fault: BaseException) -> str:
     """The line of a fault that nothing here expects: what it is, where, and of which version."""
-    own = os.path.dirname(__file__)
-    place = next((f"{os.path.basename(frame.filename)}, line {frame.lineno}"
+    own = os.path.dirname(__file__) + os.sep
+    place = next((f"{frame.filename[len(own):]}, line {frame.lineno}"
                   for frame in reversed(traceback.extract_tb(fault.__traceback__))
-                  if os.path.dirname(frame.filename) == own), "?")
+                  if frame.filename.startswith(own)), "?")
     return f"a bug of handref {handref.__version__}: {type(fault).__name__} ({place})"
 
 

@@ -1,11 +1,11 @@
-"""The words of `handref many` and `handref cents`, and what they do."""
+"""The words of `handref many`, and what they do."""
 import argparse
 import os
 import sys
 from typing import Any, Optional
 
 import handref
-from handref import formats, in_cents, many, outputs, texts
+from handref import formats, many, outputs, texts
 from handref.journal import Call
 
 NOTATIONS = ("phh", "ohh", "ohh-to", "acpc")
@@ -20,18 +20,12 @@ TASKS = {
 
 
 def add(commands: "Any") -> None:
-    """Adds both to the commands of a parser."""
+    """Adds the command to those of a parser."""
     said = "works on folders, and on files of any length, on all processors"
     parser = commands.add_parser("many", help=said, description=said)
     several = parser.add_subparsers(dest="task", required=True, metavar="TASK")
     for name, does in TASKS.items():
         _task(several.add_parser(name, help=does, description=does), name)
-    said = "writes hands of PHH or OHH that are in dollars in cents"
-    command = commands.add_parser("cents", help=said, description=said)
-    command.add_argument("--from", dest="notation", choices=NOTATIONS[:3], metavar="NOTATION",
-                         help="phh, ohh or ohh-to; else the end of a name says it")
-    command.add_argument("--out", help="a file, or a folder for many; else the standard output")
-    command.add_argument("path", nargs="+", metavar="FILE")
 
 
 def _task(command: argparse.ArgumentParser, name: str) -> None:
@@ -110,44 +104,3 @@ def _shard(text: Optional[str]) -> tuple[int, int]:
             and int(all_of_them) > 0):
         raise ValueError("--shard is I/N, as 3/16")
     return int(own), int(all_of_them)
-
-
-def run_cents(given: argparse.Namespace) -> int:
-    """Writes files in cents: nothing of a file that is refused."""
-    is_folder = len(given.path) > 1 or bool(given.out) and os.path.isdir(given.out)
-    if len(given.path) > 1 and not given.out:
-        raise ValueError("cents of many files need --out FOLDER")
-    written = []
-    for path in given.path:
-        notation = given.notation or formats.notation_of(path)
-        if notation not in ("phh", "ohh", "ohh-to"):
-            raise ValueError(f"{texts.shown(path)}: cents are of PHH and OHH: --from says which")
-        out = os.path.join(given.out, os.path.basename(path)) if is_folder else given.out
-        if out and os.path.exists(out) and os.path.samefile(out, path):
-            raise ValueError(f"{texts.shown(path)}: what is written would take its place")
-        if out in written:
-            raise ValueError(f"{texts.shown(str(out))}: two files have this name")
-        written.append(out)
-    status = 0
-    for path, out in zip(given.path, written):
-        try:
-            data = in_cents.cents(path, 100, given.notation or formats.notation_of(path))
-        except (ValueError, OSError, handref.HandrefError) as why:
-            print(texts.shown(str(why)), file=sys.stderr, flush=True)
-            status = status or (why.status if isinstance(why, handref.HandrefError) else
-                                3 if isinstance(why, ValueError) else 5)
-            continue
-        _put(data, out, is_folder)
-    return status
-
-
-def _put(data: bytes, out: Optional[str], is_folder: bool) -> None:
-    if out is None:
-        sys.stdout.buffer.write(data)
-        sys.stdout.buffer.flush()
-        return
-    if is_folder:
-        os.makedirs(os.path.dirname(out) or ".", exist_ok=True)
-    with outputs.written(out) as file:
-        file.write(data)
-

@@ -152,7 +152,7 @@ def _inside(top: str, notation: Optional[Notation]) -> tuple[list[Source], int]:
         name = str(why.filename or top)
         found.append(_faulty(name, "phh", os.path.relpath(name, top), _why(why)))
 
-    for path in _below(top, fault):
+    for path in below(top, fault):
         if _UNFINISHED.search(path):
             others += 1
             continue
@@ -175,7 +175,7 @@ def _inside(top: str, notation: Optional[Notation]) -> tuple[list[Source], int]:
     return sorted(found, key=lambda source: natural(source.out)), others
 
 
-def _below(top: str, fault: Callable[[OSError], None]) -> Iterator[str]:
+def below(top: str, fault: Callable[[OSError], None]) -> Iterator[str]:
     """What is not a folder in a folder and those below it, however deep they are. Links to folders
     are not followed."""
     left = [top]

@@ -73,6 +73,12 @@ def places(text: str, top: Optional[str] = None) -> dict[Key, Place]:
     return found
 
 
+def read_with_places(text: str) -> tuple[dict[str, Any], dict[Key, Place]]:
+    """What a document says, and the places of its values. TomlError: it is not a document."""
+    found: dict[Key, Place] = {}
+    return _read(_Reader(text, lambda key: True, found)), found
+
+
 def places_before(text: str) -> dict[Key, Place]:
     """The places of the values before what is wrong in a text."""
     found: dict[Key, Place] = {}

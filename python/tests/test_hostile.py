@@ -156,7 +156,7 @@ class Explained(Case):
         yield f"name{self.FOREIGN}.phh", hand.replace("cbr 6", "cbr 3"), ()
 
     def test_plain(self):
-        """Nothing of a file reaches the terminal as it is, by `explain`, `many` and `cents`."""
+        """Nothing of a file reaches the terminal as it is, by `explain`, `many` and `import`."""
         count = 0
         for name, text, words in self.files():
             with self.subTest(name=name):
@@ -165,8 +165,7 @@ class Explained(Case):
                 self.assertGreater(len(said.split("\n")), 2, said)
                 for task in ("check", "judge", "report"):
                     self.lines("many", task, "-k", *words, name)
-                if not name.endswith(".acpc"):
-                    self.lines("cents", "--out", "cents", name)
+                self.lines("import", "--check", *words, name)
                 count += 1
         self.assertEqual(count, 13)
 
@@ -235,12 +234,10 @@ class OddInputs(Case):
     def test_without_end(self):
         """Of a device without an end no call keeps more than an input may have, and some."""
         limit = [(resource.RLIMIT_AS, 1_000_000_000), (resource.RLIMIT_FSIZE, 40_000_000)]
-        for words in (("explain",), ("cents",), ("page",), ("many", "check"), ("many", "report")):
+        for words in (("explain",), ("import", "--check"), ("page",), ("many", "check"), ("many", "report")):
             for notation in ("phh", "ohh", "acpc"):
-                if words[0] == "cents" and notation == "acpc":
-                    continue
                 game = ("--game", MATCH) if notation == "acpc" else ()
-                path = "-" if words[0] == "many" else "/dev/zero"
+                path = "-" if words[0] in ("many", "import") else "/dev/zero"
                 more = (self.folder / "out.html",) if words[0] == "page" else ()
                 with self.subTest(words=words, notation=notation), open("/dev/zero", "rb") as zero:
                     done = subprocess.run(
@@ -374,10 +371,10 @@ class Room(Case):
             self.assertEqual((status, told.count("\n")), (6, 1), told)
 
     def test_page(self):
-        """A page or a file in cents that has no room is not left in half."""
+        """A page, or a file that is imported, is not left in half where there is no room."""
         (self.folder / "hand.phh").write_bytes((EXAMPLES / "folds.phh").read_bytes() + b"#" * 9000)
         before = sorted(os.listdir(self.folder))
-        for words in (("page", "hand.phh", "out.html"), ("cents", "--out", "out.phh", "hand.phh")):
+        for words in (("page", "hand.phh", "out.html"), ("import", "--out", ".", "hand.phh", "--force")):
             status, _, told = self.call(*words, limit=[(resource.RLIMIT_FSIZE, 2000)])
             self.assertEqual((status, told.count("\n")), (6, 1), told)
             self.assertEqual(sorted(os.listdir(self.folder)), before)

@@ -1,0 +1,380 @@
+"""Tries `handref import` on files as their producers write them, as it is called by a user."""
+import gzip
+import hashlib
+import json
+import os
+import re
+import subprocess
+import sys
+import tempfile
+import unittest
+from decimal import Decimal
+from pathlib import Path
+
+HERE = Path(__file__).resolve().parent
+sys.path.insert(0, str(HERE.parent))
+import handref  # noqa: E402
+from handref import formats, toml  # noqa: E402
+from handref.importing import amounts, rules  # noqa: E402
+
+WILD, MADE = HERE / "wild", HERE / "wild-made"
+EXAMPLES = HERE.parent.parent / "examples"
+FOLDS = (EXAMPLES / "folds.phh").read_text()
+CASH = (FOLDS.replace("100, 100, 100", "1.00, 1, 1.00").replace("1, 2, 0", "0.01, 0.02, 0")
+        .replace("min_bet = 2", "min_bet = 0.02").replace("cbr 6", "cbr 0.06"))
+# What comes of each file: how many hands are legal, refused, left out; and the end of its file.
+FILES = {
+    "pluribus-fold.phh": (1, 0, 0), "pluribus-odd-split.phh": (1, 0, 0),
+    "pluribus-half-chips.phh": (1, 0, 0), "pluribus-all-in.phh": (1, 0, 0),
+    "wsop-big-blind-ante.phh": (1, 0, 0), "wsop-badugi.phh": (1, 0, 0),
+    "arieh-yockey.phh": (1, 0, 0), "wsop-razz.phh": (1, 0, 0), "wsop-wrong-finish.phh": (0, 1, 0),
+    "antonius-blom.phh": (1, 0, 0), "phua-xuan.phh": (1, 0, 0), "alice-carol.phh": (1, 0, 0),
+    "handhq.phhs": (2, 0, 0), "winnings.phhs": (1, 0, 0), "negative-blind.phh": (0, 0, 1),
+    "straddle-and-muck.phh": (1, 0, 0), "stops-early.phh": (0, 0, 1), "rank-only.phh": (0, 0, 1),
+    "tracker-cash.ohh": (1, 0, 0), "tournament.ohh": (1, 0, 0), "tournament-points.ohh": (1, 0, 0),
+    "late-post.ohh": (0, 0, 1), "sitting-out.ohh": (1, 0, 0), "dead-small-blind.ohh": (1, 0, 0),
+    "dead-button.ohh": (1, 0, 0), "coinpoker.ohh": (1, 0, 0), "no-empty-line.ohh": (2, 0, 0),
+    "json-list.ohh": (2, 0, 0), "omaha-hi-lo.ohh": (0, 0, 1),
+    "returned-bet-in-pot.ohh": (0, 0, 1), "nulls.ohh": (1, 0, 0),
+    "no-limit.log": (3, 0, 0), "limit.log": (2, 0, 0), "half-chips.log": (1, 0, 0),
+    "kuhn.log": (0, 0, 1), "leduc.log": (0, 0, 1), "deepstack.log": (3, 0, 0),
+    "wrong-score.log": (3, 0, 0), "timing-lines.log": (2, 0, 0), "dealer-output.txt": (2, 0, 0),
+    "seats-exchanged.log": (2, 0, 0), "comments.log": (1, 0, 0)}
+
+
+def user(*words, given=b"", folder=None):
+    """A call as on a user's machine: the status, the output, and what went to standard error."""
+    done = subprocess.run(
+        [sys.executable, "-m", "handref", "import", *map(str, words)], input=given, cwd=folder,
+        capture_output=True, env={"PATH": "/usr/bin:/bin", "HOME": "/tmp", "LANG": "C.UTF-8",
+                                  "PYTHONPATH": str(HERE.parent), "HANDREF_PROGRAM": os.path.abspath(
+                                      os.environ.get("HANDREF_PROGRAM") or "handref")})
+    return done.returncode, done.stdout.decode(), done.stderr.decode()
+
+
+class Case(unittest.TestCase):
+    def setUp(self):
+        folder = tempfile.TemporaryDirectory()
+        self.addCleanup(folder.cleanup)
+        self.folder = Path(folder.name)
+        self.out = self.folder / "tidy"
+
+    def put(self, name, data):
+        path = self.folder / name
+        path.parent.mkdir(exist_ok=True)
+        path.write_bytes(data.encode() if isinstance(data, str) else data)
+        return path
+
+    def table(self, data, *words, name="hand.phh", status=0):
+        """The one table that is made of a hand of PHH."""
+        self.put(name, data)
+        done = user("--out", self.out, *words, self.folder / name)
+        self.assertEqual((done[0], done[2]), (status, ""), done)
+        return toml.read((self.out / name).read_text())
+
+
+class Files(Case):
+    def test_each_file(self):
+        """Each file as its producers write it: what is legal, what is refused, what is left out."""
+        journal = self.folder / "journal"
+        user("--out", self.out, "--journal", journal, WILD)
+        found = {name: [0, 0, 0] for name in FILES}
+        for row in map(json.loads, journal.read_text().splitlines()):
+            if "bytes" in row:
+                kind = 2 if "left out" in row else 0 if row["verdict"] == "legal" else 1
+                found[Path(row["source"]).name][kind] += 1
+        self.assertEqual({name: tuple(counts) for name, counts in found.items()}, FILES)
+
+    def test_status(self):
+        """0 only if every hand was written and is legal, and every SCORE is the sum."""
+        for name, status in (("pluribus-fold.phh", 0), ("wsop-wrong-finish.phh", 1),
+                             ("stops-early.phh", 3), ("wrong-score.log", 1), ("kuhn.log", 3)):
+            self.assertEqual(user("--check", WILD / name)[0], status, name)
+
+    def test_the_folder(self):
+        """The whole folder: its lines, its files and its journal, as they were looked at by hand."""
+        journal = self.folder / "journal"
+        done = user("--out", self.out, "--journal", journal, "wild", folder=HERE)
+        self.assertEqual(done[2], "")
+        made = {"lines": done[1].replace(str(self.out), "tidy"),
+                "journal": journal.read_text()}
+        made.update({str(path.relative_to(self.out)): path.read_text() for path in
+                     self.out.rglob("*") if path.name != ".handref-import"})
+        if os.environ.get("HANDREF_TESTS_WRITE"):  # look at what changes with git diff
+            for name, text in made.items():
+                (MADE / name).parent.mkdir(exist_ok=True, parents=True)
+                (MADE / name).write_text(text)
+        wanted = {str(path.relative_to(MADE)): path.read_text() for path in MADE.rglob("*")}
+        for name in sorted({*made, *wanted}):
+            self.assertEqual(made.get(name), wanted.get(name), name)
+
+    def test_what_is_made_is_legal(self):
+        """The proved program takes the folder that was made, and says the same of it."""
+        user("--out", self.out, WILD)
+        files = [str(path) for path in self.out.iterdir() if path.suffix not in (".log", ".game")
+                 and formats.notation_of(str(path))]
+        done = subprocess.run([sys.executable, "-m", "handref", "many", "check", "-k", *files],
+                              capture_output=True, env={**os.environ, "PYTHONPATH": str(HERE.parent)})
+        said = done.stdout.decode()
+        self.assertIn("wsop-wrong-finish.phh: refused: hand 1: finish p4 stated 7350000, "
+                      "replayed 7450000", said)
+        self.assertIn(f"legal files: {len(files) - 1} of {len(files)}", said)
+
+
+class Promise(Case):
+    def test_check_writes_nothing(self):
+        path = self.put("wild/a.phh", CASH)
+        done = user("--check", path.parent)
+        self.assertEqual(done[0], 0)
+        self.assertEqual(sorted(each.name for each in self.folder.rglob("*")), ["a.phh", "wild"])
+        self.assertEqual(user("--check", "--out", self.out, path)[0], 2)
+        self.assertEqual(user(path)[0], 2)
+
+    def test_nothing_else_is_replaced(self):
+        """A file that no import has made stays, also where an import has made its name before."""
+        path = self.put("a.phh", CASH)
+        self.assertEqual(user("--out", self.out, path)[0], 0)
+        self.assertEqual(user("--out", self.out, path)[0], 0)
+        (self.out / "a.phh").write_text("mine")
+        done = user("--out", self.out, path)
+        self.assertEqual((done[0], done[2]), (2, f"{self.out}/a.phh: it is there, and no import has "
+                                              "made it as it is; --force replaces it\n"))
+        self.assertEqual((self.out / "a.phh").read_text(), "mine")
+        self.assertEqual(user("--out", self.out, "--force", path)[0], 0)
+        self.assertNotEqual((self.out / "a.phh").read_text(), "mine")
+        self.assertEqual(user("--out", self.folder, self.folder)[0], 2)
+
+    def test_what_is_not_made_any_more(self):
+        """A list of hands that are left out goes away when none is left out any more."""
+        path = self.put("a.phh", (WILD / "stops-early.phh").read_bytes())
+        self.assertEqual(user("--out", self.out, path)[0], 3)
+        self.assertTrue((self.out / "a.phh.left-out").exists())
+        self.put("a.phh", FOLDS)
+        self.assertEqual(user("--out", self.out, path)[0], 0)
+        self.assertEqual(sorted(os.listdir(self.out)), [".handref-import", "a.phh"])
+
+    def test_rules_off(self):
+        """Each rule can be turned off; the hand is then as it was, and judged so."""
+        for name, rule, said in (
+                ("straddle-and-muck.phh", "muck-dash", "BadAction"),
+                ("antonius-blom.phh", "unit", "AmountNotWhole"),
+                ("nulls.ohh", "nulls", "WrongType"), ("sitting-out.ohh", "not-dealt-in", "refused"),
+                ("dead-button.ohh", "dead-button", "BadPlayer"),
+                ("dead-small-blind.ohh", "dead-small-blind", "BadPost"),
+                ("no-empty-line.ohh", "documents", "no JSON"),
+                ("half-chips.log", "unit", "not whole times 1"), ("dealer-output.txt", "dealer-output",
+                                                         "a line of MATCHSTATE")):
+            done = user("--check", "--not", rule, WILD / name)
+            with self.subTest(rule):
+                self.assertIn(done[0], (1, 3), done)
+                self.assertIn(said, done[1])
+                self.assertIn("0 legal", done[1])
+        done = user("--check", "--not", "score", WILD / "wrong-score.log")
+        self.assertEqual(done[0], 0)
+        done = user("--check", "--not", "winnings", WILD / "winnings.phhs")
+        self.assertEqual(done[1], "1 hand of 1 file: 1 written, 0 left out; 1 legal, 0 refused\n")
+        self.assertEqual(user("--check", "--not", "nothing", WILD)[0], 2)
+
+    def test_rules_are_listed(self):
+        """The rules that --rules lists are the table of the document."""
+        done = user("--rules")
+        self.assertEqual(re.findall(r"^([a-z-]+) \(", done[1], re.M), list(rules.NAMES))
+        text = (HERE.parent.parent / "docs" / "IMPORT.md").read_text()
+        rows = re.findall(r"^### ([a-z-]+)\n\n(.*?)\.\n\n- Sees: (.*?)\.\n- Writes: (.*?)\.\n"
+                          r"- The same hand, because (.*?)\.\n- Example: .", text, re.M | re.S)
+        self.assertEqual([tuple(" ".join(cell.split()) for cell in row) for row in rows],
+                         [(rule.name, rule.sources, rule.sees, rule.writes, rule.why)
+                          for rule in rules.RULES])
+
+    def test_journal(self):
+        """Each written hand is traced to its bytes: the sum of the source, and the place in it."""
+        data = b"# before\n[1]\n" + CASH.encode() + b"\n[2]\n" + FOLDS.encode()
+        path = self.put("a.phhs", data)
+        journal = self.folder / "journal"
+        self.assertEqual(user("--out", self.out, "--journal", journal, path)[0], 0)
+        rows = [json.loads(line) for line in journal.read_text().splitlines()]
+        self.assertEqual({row["sha256"] for row in rows}, {hashlib.sha256(data).hexdigest()})
+        self.assertEqual({row["source"] for row in rows}, {str(path)})
+        hands = [row for row in rows if "out" in row]
+        self.assertEqual([(row["hand"], row["out"], row["place"], row["times"]) for row in hands],
+                         [(1, "a.phhs", 1, 100), (2, "a.phhs", 2, 100)])
+        self.assertEqual(b"".join(data[slice(*row["bytes"])] for row in hands), data[9:])
+        self.assertEqual(user("--out", self.out, "--journal", journal, path)[0], 2)
+        journal.unlink()
+        user("--out", self.out, "--journal", journal, WILD / "straddle-and-muck.phh")
+        row = json.loads(journal.read_text().splitlines()[0])
+        self.assertEqual((row["rule"], row["before"], row["after"]), ("muck-dash", "p4 sm -", "p4 sm"))
+
+    def test_all_or_nothing_is_said(self):
+        """What cannot be read is named, and the others are imported."""
+        self.put("wild/a.phh", CASH)
+        self.put("wild/b.phh", b"variant = 'NT'\nx = '\n")
+        self.put("wild/c.md", "no hands")
+        self.put("wild/d.phhs", "[1]\nx = 1\n[a]\ny = 2\n")
+        done = user("--out", self.out, self.folder / "wild")
+        self.assertEqual(done[0], 3)
+        self.assertIn("b.phh: 1 hand, 1 left out (b.phh.left-out): 1 a text that is no TOML", done[1])
+        self.assertIn("d.phhs:3: a file that is not cut at its hands: this table is not a hand",
+                      done[1])
+        self.assertIn(f"not read: 1 file without hands: {self.folder}/wild/c.md", done[1])
+        self.assertIn("b.phh:2: hand 1: a text that is no TOML", (self.out / "b.phh.left-out")
+                      .read_text())
+        self.assertTrue((self.out / "a.phh").exists())
+
+    def test_packed_and_standard_input(self):
+        self.put("wild/a.phh.gz", gzip.compress(CASH.encode()))
+        self.assertEqual(user("--out", self.out, self.folder / "wild")[0], 0)
+        self.assertEqual(toml.read((self.out / "a.phh").read_text())["currency"], "cents")
+        done = user("--out", self.out, "-", given=CASH.encode())
+        self.assertEqual(done[0], 0)
+        self.assertEqual(toml.read((self.out / "stdin.phhs").read_text())["min_bet"], 2)
+        self.put("wild/b.phh.gz", gzip.compress(CASH.encode())[:40])
+        self.assertEqual(user("--out", self.out, self.folder / "wild")[0], 5)
+
+    def test_two_files_of_one_name(self):
+        self.put("wild/a.phhs", "[1]\n" + FOLDS)
+        self.put("wild/a.phhs.gz", gzip.compress(b"[1]\n" + CASH.encode()))
+        self.assertEqual(user("--out", self.out, self.folder / "wild")[0], 0)
+        self.assertEqual(len([name for name in os.listdir(self.out) if name.startswith("a.")]), 2)
+
+
+class Amounts(Case):
+    def test_phh(self):
+        table, own = self.table(CASH), toml.read(FOLDS)
+        self.assertEqual(table.pop("currency"), "cents")
+        self.assertEqual(table, own)
+
+    def test_what_is_kept(self):
+        """Comments, layout and other keys are as they were."""
+        self.table("# a hand\n" + CASH + "_time = 12.345 # of it\n")
+        written = (self.out / "hand.phh").read_text()
+        self.assertIn("# a hand\n", written)
+        self.assertIn("_time = 12.345 # of it\n", written)
+        for before, after in (('currency = "USD"', "USD cents"), ("currency = ''", "cents")):
+            self.assertEqual(self.table(CASH + before)["currency"], after)
+
+    def test_units(self):
+        """One unit for all amounts of a file, the first that makes all of them whole."""
+        for parts, money, chips in ((1, 1, 1), (2, 100, 2), (4, 100, 4), (5, 100, 10),
+                                    (10, 100, 10), (20, 100, 100), (100, 100, 100),
+                                    (1000, 1000, 1000), (8, 1000, 1000)):
+            self.assertEqual((amounts.unit(parts, True), amounts.unit(parts, False)),
+                             (money, chips), parts)
+        whole = FOLDS.replace("100, 100, 100", "100.00, 100, 100.0").replace("cbr 6", "cbr 6.00")
+        self.assertEqual(self.table(whole), toml.read(FOLDS))
+        half = FOLDS.replace("100, 100, 100", "100.5, 100, 100")
+        self.assertEqual(self.table(half)["starting_stacks"], [201, 200, 200])
+        self.assertEqual(self.table(half)["currency"], "1/2")
+        self.assertEqual(self.table(half, "--times", "10")["starting_stacks"], [1005, 1000, 1000])
+        both = "[1]\n" + half + "[2]\n" + FOLDS.replace("cbr 6", "cbr 6.25")
+        tables = self.table(both, name="two.phhs")
+        self.assertEqual([tables[key]["starting_stacks"][0] for key in "12"], [402, 400])
+
+    def test_an_odd_pot_stays_odd(self):
+        """Whole chips written as 18450.00 are not multiplied: the odd chip of a pot stays one."""
+        text = (WILD / "pluribus-odd-split.phh").read_text().replace("10188", "10188.00")
+        self.assertEqual(self.table(text)["finishing_stacks"][2], 10188)
+
+    def test_nothing_is_rounded(self):
+        for amount in ("0.0000000005", "1.00000000000000000000000000000000001", "1e999999",
+                       "1e-999999", "20000000000000.01"):
+            path = self.put("a.phh", CASH.replace("min_bet = 0.02", f"min_bet = {amount}"))
+            done = user("--check", path)
+            self.assertEqual(done[0], 3, done)
+            self.assertRegex(done[1], "an amount (above|with more than nine places)")
+        path = self.put("a.phh", CASH.replace("0.06", "0.065"))
+        self.assertIn("an amount that is not whole times 100", user("--check", "--times", "100",
+                                                                  path)[1])
+
+    def test_digits(self):
+        """Digits are 0 to 9: those of other scripts are no amounts."""
+        for sign in "٦６६":
+            path = self.put("a.phh", CASH.replace("cbr 0.06", f"cbr {sign}"))
+            done = user("--check", path)
+            self.assertIn("1 left out: 1 BadAction", done[1])
+            path = self.put("a.phh", CASH.replace("cbr 0.06", f"cbr 0.0{sign}"))
+            self.assertIn("1 left out: 1 BadAction", user("--check", path)[1])
+            path = self.put("a.log", f"STATE:0:r30{sign}f:9s8h|KdTc:-100.{sign}|100:A|B\n")
+            self.assertEqual(user("--check", "--game", WILD / "deepstack.game", path)[0], 3)
+
+    def test_actions(self):
+        for action, wanted in (("p3 cbr 0.06", "p3 cbr 6"), ("p3 cbr 0.06 # 1.005", "p3 cbr 6 # 1.005"),
+                               ("p3 cbr 1", "p3 cbr 100"), ("  p3 cbr 0.10", "  p3 cbr 10"),
+                               ('p3 cbr 0.1#"\\', 'p3 cbr 10#"\\')):
+            table = self.table(CASH.replace('"p3 cbr 0.06"', json.dumps(action)), "-j", "1")
+            self.assertIn(wanted, table["actions"])
+
+    def test_digits_are_kept(self):
+        """A number that is not an amount keeps the digits that it was written with."""
+        text = (WILD / "coinpoker.ohh").read_text()
+        path = self.put("a.ohh", text.replace('"Hero"', '"Hero","x":1.10000000000000000001'))
+        self.assertEqual(user("--out", self.out, path)[0], 0)
+        written = (self.out / "a.ohh").read_text()
+        self.assertIn('"x":1.10000000000000000001', written)
+        self.assertEqual(amounts.parts_of(Decimal("2.50")), 2)
+
+    def test_log_and_game(self):
+        """The chips of a log and of its game file are multiplied together: halves by 2, and by 3
+        the thirds of a pot that three players share."""
+        user("--out", self.out, WILD / "half-chips.log")
+        self.assertIn("stack = 40000 40000 40000\nblind = 100 200 0\n",
+                      (self.out / "half-chips.game").read_text())
+        self.assertIn(":-450|225|225:", (self.out / "half-chips.log").read_text())
+        # Three players have a straight, and share the 100 chips that the first one has lost.
+        game = "GAMEDEF\nnolimit\nnumPlayers = 4\nnumRounds = 4\nstack = 1000 1000 1000 1000\n" \
+            "blind = 50 100 0 0\nfirstPlayer = 3 1 1 1\nnumSuits = 4\nnumRanks = 13\n" \
+            "numHoleCards = 2\nnumBoardCards = 0 3 1 1\nEND GAMEDEF\n"
+        line = "STATE:0:cccc/cccc/cccc/cccc:2c2d|AsKd|AdKc|AcKh/AhKsQd/Jd/Tc:%s:a|b|c|d\n"
+        self.put("t.game", game)
+        path = self.put("t.log", line % "-100|33.333333|33.333333|33.333333")
+        done = user("--out", self.out, path)
+        self.assertEqual(done[0], 1, done)  # the board is a straight: all four share
+        path = self.put("t.log", line.replace("Qd/Jd/Tc", "Qd/Jd/3h") % (
+            "-100|33.333333|33.333333|33.333333"))
+        done = user("--out", self.out, path)
+        self.assertEqual(done[0], 0, done)
+        self.assertIn(":-300|100|100|100:", (self.out / "t.log").read_text())
+        self.assertIn("stack = 3000 3000 3000 3000\n", (self.out / "t.game").read_text())
+
+    def test_score(self):
+        self.assertIn("wild/wrong-score.log: line 8: SCORE says 20355, due 20350\n",
+                      user("--check", "wild/wrong-score.log", folder=HERE)[1])
+
+
+class Dialects(Case):
+    def test_decided(self):
+        """A file has a dialect if each of its hands is legal in it, and one of them only there."""
+        text = (EXAMPLES / "one_dialect.ohh").read_text()
+        path = self.put("a.ohh", text)
+        self.assertEqual(user("--out", self.out, path)[0], 0)
+        self.assertTrue((self.out / "a.ohh").exists())
+        done = user("--out", self.out, WILD / "tracker-cash.ohh")
+        self.assertIn("is the total to which it goes (ohh-to)", done[1])
+        self.assertTrue((self.out / "tracker-cash.ohh-to").exists())
+
+    def test_not_decided(self):
+        """A raise by 250 or to 250: both are legal, so the hand is left out until it is said."""
+        text = (EXAMPLES / "raise_adds.ohh").read_text()
+        hand = json.loads(text)
+        del hand["ohh"]["pots"]
+        path = self.put("a.ohh", json.dumps(hand))
+        done = user("--check", path)
+        self.assertEqual(done[0], 3)
+        self.assertIn("1 a dialect that is not clear", done[1])
+        for dialect in ("ohh", "ohh-to"):
+            self.assertEqual(user("--out", self.out, "--from", dialect, path)[0], 0)
+            self.assertTrue((self.out / f"a.{dialect}").exists())
+
+    def test_against_each_other(self):
+        """Two hands, each legal in another dialect, decide for none."""
+        one = (EXAMPLES / "one_dialect.ohh").read_text()
+        two = (self.folder / "b.ohh")
+        user("--out", self.out, WILD / "tracker-cash.ohh")
+        two.write_text(one + "\n" + (self.out / "tracker-cash.ohh-to").read_text())
+        done = user("--check", two)
+        self.assertEqual(done[0], 3)
+        self.assertIn("2 hands, 2 left out: 2 a dialect that is not clear", done[1])
+
+
+if __name__ == "__main__":
+    unittest.main()
