@@ -7,7 +7,7 @@ import sys
 def fill() -> None:
     """Puts a device in the place of each stream that is closed. Else the next file that is opened
     would get its number, and what is printed would be lost without a word. Standard input and
-    output then fail where they are used; what nobody can be told goes nowhere."""
+    output then fail where they are used; what nobody can read goes nowhere."""
     for number, name in enumerate(("stdin", "stdout", "stderr")):
         if getattr(sys, name) is None:
             place = os.open("/dev/null" if number == 2 else "/dev/full", os.O_WRONLY)

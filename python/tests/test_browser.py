@@ -47,6 +47,7 @@ WALK = """<script>addEventListener("load", async () => {
   pre.textContent = JSON.stringify([found, faults]);
   document.body.append(pre);
 });</script>"""
+IS_QUICK = False  # `./handref --test` leaves these out
 
 
 class Browser(Case):

@@ -36,6 +36,7 @@ def unescaped(text):
     """The text of a column of TSV."""
     return re.sub(r"\\(?:x(..)|u(....)|(.))", lambda found: SHORT[found[3]] if found[3] else
                   chr(int(found[1] or found[2], 16)), text)
+IS_QUICK = False  # `./handref --test` leaves these out
 
 
 class Case(unittest.TestCase):

@@ -17,6 +17,7 @@ import handref  # noqa: E402
 import handref_build  # noqa: E402
 
 EXAMPLES = PACKAGE.parent / "examples"
+IS_QUICK = False  # `./handref --test` leaves these out
 
 
 class Case(unittest.TestCase):
