@@ -1,11 +1,16 @@
 """The net chips of each name of a page: a chart, and the rows of `session`."""
 import html
-from typing import Any, Iterable, Sequence
+from dataclasses import astuple
+from typing import Any, Iterable, Optional, Sequence
 
-from handref.texts import short, shown
+import handref
+from handref import colours
 from handref.page_played import Page
+from handref.event_words import spaced
+from handref.results import SessionSum
+from handref.texts import short, shown
 
-_WIDE, _HIGH, _COLUMNS, _LINES = 960, 340, 900, 8
+_WIDE, _HIGH, _COLUMNS, _LEFT, _RIGHT = 760, 340, 900, 76, 140
 
 
 def session_part(made: Page) -> str:
@@ -20,7 +25,7 @@ def session_part(made: Page) -> str:
                 line[-1] = (place, line[-1][1] + net)
             else:
                 line.append((place, line[-1][1] + net))
-    most = sorted(lines, key=lambda name: -len(lines[name]))[:_LINES]
+    most = sorted(lines, key=lambda name: -len(lines[name]))[:len(colours.LIGHT)]
     parts = ['<section class="chart"><h2>Net chips</h2>', _chart(lines, most, len(played)),
              _rows_of(made, lines, most), "</section>"]
     return "\n".join(parts)
@@ -31,7 +36,7 @@ def _chart(lines: dict[str, list[tuple[int, int]]], most: Sequence[str], count: 
     high = max(net for name in most for _, net in lines[name])
     ticks = _ticks(low, high)
     low, high = min(low, ticks[0]), max(high, ticks[-1])
-    left, right, top = 90, _WIDE - 150, 15
+    left, right, top = _LEFT, _WIDE - _RIGHT, 15
 
     def across(place: int) -> float:
         return round(left + (right - left) * place / count, 1)
@@ -40,17 +45,17 @@ def _chart(lines: dict[str, list[tuple[int, int]]], most: Sequence[str], count: 
         return round(top + (_HIGH - top - 40) * (high - net) / ((high - low) or 1), 1)
 
     described = "; ".join(f"{short(shown(name), 30)} {lines[name][-1][1]:+}" for name in most)
-    parts = [f'<div class="wide"><svg class="plot" viewBox="0 0 {_WIDE} {_HIGH}" role="img" '
+    parts = [f'<div class="cut"><svg class="plot" viewBox="0 0 {_WIDE} {_HIGH}" role="img" '
              'aria-labelledby="net-title net-text"><title id="net-title">Net chips over '
              f'{count} hands</title><desc id="net-text">At the end: {html.escape(described)}'
              "</desc>"]
     for tick in ticks:
         kind = "axis" if tick == 0 else "grid"
         parts.append(f'<path class="{kind}" d="M{left} {down(tick)}H{right}"/><text x="{left - 8}" '
-                     f'y="{down(tick) + 4}" text-anchor="end">{spaced(tick)}</text>')
+                     f'y="{down(tick) + 4}" text-anchor="end">{_rounded(tick)}</text>')
     for place in _ticks(0, count):
         parts.append(f'<text x="{across(min(place, count))}" y="{_HIGH - 12}" '
-                     f'text-anchor="middle">{spaced(place) if place <= count else ""}</text>')
+                     f'text-anchor="middle">{_rounded(place) if place <= count else ""}</text>')
     ends = []
     for number, name in enumerate(most):
         points = _thinned(lines[name], count)
@@ -60,12 +65,17 @@ def _chart(lines: dict[str, list[tuple[int, int]]], most: Sequence[str], count: 
                      f"<title>{html.escape(shown(name))}</title></path>")
         ends.append([down(lines[name][-1][1]) + 4, name])
     for height, name in _apart(ends):
-        parts.append(f'<text x="{right + 6}" y="{height}">{html.escape(short(shown(name)))}</text>')
+        parts.append(f'<text class="at-end" x="{right + 6}" y="{height}">'
+                     f"{html.escape(short(shown(name)))}</text>")
     return "".join(parts) + "</svg></div>"
 
 
-def spaced(number: int) -> str:
-    return f"{number:,}".replace(",", "\u202f").replace("-", "−")
+def _rounded(number: int) -> str:
+    """A number in thousands or millions where it is a multiple of these."""
+    for size, sign in ((1_000_000, "M"), (1_000, "k")):
+        if number and number % size == 0:
+            return f"{spaced(number // size)}\u202f{sign}"
+    return spaced(number)
 
 
 def _ticks(low: int, high: int) -> list[int]:
@@ -98,22 +108,34 @@ def _apart(ends: list[list[Any]], least: int = 15) -> Iterable[tuple[float, str]
         yield round(min(height, _HIGH), 1), name
 
 
+def _sessions(sessions: Sequence[Optional[handref.Session]]) -> dict[str, list[int]]:
+    """The rows of `session` of each piece as those of all; none where one was not asked."""
+    sums = SessionSum()
+    for each in sessions:
+        if each is None:
+            return {}
+        sums.add([*map(astuple, each.rows), ("rake", each.rake)])
+    return sums.found
+
+
 def _rows_of(made: Page, lines: dict[str, list[tuple[int, int]]], most: Sequence[str]) -> str:
     """The rows of `session`; or the net chips alone, where it was not asked."""
     heads = ["Name", "Net"]
     rows: list[tuple[str, list[int]]] = [(name, [lines[name][-1][1]]) for name in lines]
-    if made.session:
+    found = _sessions(made.sessions)
+    if found:
         heads += "First,Gaps,Last,Hands,Entered,Raised,Shown,Won".split(",")
-        rows = [(row.name, [row.net, row.first, row.gaps, row.last, row.hands, row.entered,
-                            row.raised, row.shown, row.won]) for row in made.session.rows]
-    parts = ['<div class="wide"><table><thead><tr><td></td>'] + [
+        rows = [(name, [net, first, gaps, *others])
+                for name, (first, gaps, net, *others) in found.items()]
+    parts = ['<table class="rows names"><thead><tr><td></td>'] + [
         f'<th scope="col"{" class=number" if count else ""}>{head}</th>'
         for count, head in enumerate(heads)] + ["</tr></thead><tbody>"]
     for name, numbers in sorted(rows, key=lambda row: -row[1][0])[:200]:
         swatch = f'<svg class="swatch" viewBox="0 0 36 12" aria-hidden="true"><path class="c' \
             f'{most.index(name)}" d="M0 6H36"/></svg>' if name in most else ""
-        cells = "".join(f'<td class="number">{spaced(each)}</td>' for each in numbers)
+        cells = "".join(f'<td class="number" data-name="{head}">{spaced(each)}</td>'
+                        for head, each in zip(heads[1:], numbers))
         parts.append(f'<tr><td>{swatch}</td><th scope="row"><bdi>{html.escape(shown(name))}</bdi>'
                      f"</th>{cells}</tr>")
     told = f"<p>{len(rows) - 200} other names are left out.</p>" if len(rows) > 200 else ""
-    return "".join(parts) + f"</tbody></table></div>{told}"
+    return "".join(parts) + f"</tbody></table>{told}"

@@ -10,14 +10,16 @@ from importlib import resources
 from typing import Any, Iterator, Optional, Sequence
 
 import handref
-from handref import HandrefError, messages
+from handref import HandrefError, colours, messages
 from handref.formats import GAMES
 from handref.single_hands import MOST_UNREAD
-from handref.texts import short, shown
+from handref.texts import counted, short, shown
 from handref.explain_play import due_there
 from handref.page_chart import session_part
 from handref.page_played import Hand, Page
+from handref.event_words import Part, in_words
 
+MARK = '<meta name="generator" content="handref page">'  # a page that may be written over
 MOST_LISTED = 100  # hands that are there without JavaScript, event by event
 _BLOCK = 256  # hands that are packed together
 
@@ -35,16 +37,19 @@ def _reason(error: HandrefError) -> str:
 
 
 def document(made: Page, title: str) -> str:
-    css, js = (resources.files("handref").joinpath(name).read_text("utf-8")
-               for name in ("page.css", "page.js"))
+    """The whole page."""
+    css, *scripts = (resources.files("handref").joinpath(name).read_text("utf-8")
+                     for name in ("page.css", "page_hand.js", "page_table.js", "page.js"))
+    css, js = css + colours.styles(), "\n".join(scripts)
+    where = '<th scope="col">File</th>' if len(made.files) > 1 else ""
     parts = [
         "<!DOCTYPE html>", '<html lang="en">', "<head>", '<meta charset="utf-8">',
         '<meta http-equiv="Content-Security-Policy" content="default-src \'none\'; base-uri '
         f"'none'; form-action 'none'; style-src {_hash(css)}; script-src {_hash(js)}\">",
-        '<meta name="viewport" content="width=device-width, initial-scale=1">',
+        MARK, '<meta name="viewport" content="width=device-width, initial-scale=1">',
         f"<title>{_text(title)}</title>", f"<style>{css}</style>", "</head>", "<body>",
         f"<header><h1>{_text(title)}</h1>", _summary(made), "</header>", "<main>",
-        _VIEWER, _listed(made), session_part(made), "</main>",
+        _VIEWER.replace("{file}", where), _listed(made), session_part(made), "</main>",
         *_data(made), f"<script>{js}</script>", "</body>", "</html>", ""]
     return "\n".join(part for part in parts if part)
 
@@ -58,9 +63,11 @@ def _hash(text: str) -> str:
 
 
 def _summary(made: Page) -> str:
-    count = made.legal + made.refused
-    told = f"<p>{count} hand{'s' * (count != 1)} of <bdi>{_text(made.file)}</bdi>, read as "
-    told += f"{made.notation}: {made.legal} legal"
+    count, first = made.legal + made.refused, made.files[0]
+    told = f"<p>{counted(count, 'hand')} of "
+    told += f"<bdi>{_text(first.name)}</bdi>, read as {first.notation}" if len(made.files) == 1 \
+        else counted(len(made.files), "file")
+    told += f": {made.legal} legal"
     told += f', <span class="refused">{made.refused} refused</span>' if made.refused else ""
     told += f"; of them {len(made.hands)} here" if len(made.hands) < count else ""
     told += ".</p>"
@@ -68,12 +75,36 @@ def _summary(made: Page) -> str:
         told += ('<p class="soft">This page has too many hands for the legal moves and the equity '
                  "of each: choose hands by --hand.</p>")
     if made.left:
-        told += (f'<p class="refused">The file has {made.left} more hands, which are not shown: '
-                 f"{MOST_UNREAD} hands before them do not read.</p>")
-    return told
+        told += (f'<p class="refused">{made.left} more hands are not shown: {MOST_UNREAD} hands '
+                 "before them in their file do not read.</p>")
+    listed = "".join(f"<li>{_text(line)}</li>" for line in made.not_shown)
+    return told + (f"<details><summary>{counted(len(made.not_shown), 'line')} about what is not "
+                   f"shown</summary><ul>{listed}</ul></details>" if listed else "")
 
 
 _VIEWER = """<section id="viewer" aria-label="a hand">
+<div class="bar" id="top"><h2 id="hand-head"></h2><span id="others"><button type="button"
+id="before">previous hand</button> <button type="button" id="after">next hand</button></span></div>
+<p id="lead"></p>
+<div id="played"><div id="stage"><div class="bar"><button type="button" id="first">first</button>
+<button type="button" id="back">back</button>
+<input id="range" type="range" min="0" value="0" aria-label="event">
+<button type="button" id="on">next</button><button type="button" id="last">last</button></div>
+<p id="said" aria-live="polite"></p><div id="table"></div><p id="now"></p>
+<p id="own" class="soft"></p>
+<p id="made-up" class="soft">What follows it in the file is not played.</p></div>
+<div id="side"><h3>Events</h3>
+<div id="events" role="region" tabindex="0" aria-label="the list of events"><table>
+<tbody id="steps"></tbody></table></div>
+<p class="soft keys">Keys: \u2190 and \u2192 go through the events, Home and End go to the first and
+the last; Shift with \u2190 or \u2192 goes to another hand.</p></div></div>
+<div id="verdict"></div><div id="facts" class="soft"></div>
+<section id="equity"><h3>Equity by street</h3>
+<p class="soft">With the cards that are known at the end of the hand.</p>
+<table class="rows"><thead><tr>
+<th scope="col">Street</th><th scope="col">Seat</th><th class="number" scope="col">Wins</th>
+<th class="number" scope="col">Boards</th><th class="number" scope="col">Of</th></tr></thead>
+<tbody id="equity-rows"></tbody></table></section>
 <section id="choice"><h2>Hands</h2>
 <div class="bar"><label>Show <select id="which"><option value="all">all hands</option>
 <option value="refused">refused hands</option><option value="legal">legal hands</option></select>
@@ -81,32 +112,9 @@ _VIEWER = """<section id="viewer" aria-label="a hand">
 <button type="button" id="rows-before">earlier</button>
 <span id="count" role="status"></span><button type="button" id="rows-after">later</button></div>
 <div id="chosen" role="region" tabindex="0" aria-label="the list of hands"><table><thead><tr>
-<th class="number" scope="col">Hand</th><th scope="col">Game</th><th scope="col">Names</th>
+<th class="number" scope="col">Hand</th>{file}<th scope="col">Game</th><th scope="col">Names</th>
 <th class="number" scope="col">Pots</th><th scope="col">Verdict</th></tr></thead>
-<tbody id="rows"></tbody></table></div></section>
-<h2 id="hand-head"></h2><div id="facts" class="soft"></div><div id="verdict"></div>
-<div class="bar" id="others"><button type="button" id="before">previous hand</button>
-<button type="button" id="after">next hand</button></div>
-<div id="played"><div><div id="table" class="wide"></div>
-<div class="bar"><button type="button" id="first">first</button>
-<button type="button" id="back">back</button>
-<input id="range" type="range" min="0" value="0" aria-label="event">
-<button type="button" id="on">next</button><button type="button" id="last">last</button></div>
-<p id="said" aria-live="polite"></p><p id="now"></p>
-<p id="made-up" class="soft">What follows it in the file is not played.</p>
-<p class="soft keys">Keys: ← and → go through the events, Home and End go to the first and the
-last; Shift with ← or → goes to another hand.</p></div>
-<div><h3>Events</h3>
-<div id="events" class="wide" role="region" tabindex="0" aria-label="the list of events"><table>
-<thead><tr><th class="number" scope="col">Event</th>
-<th scope="col">In the words of replay</th><th class="chips" scope="col">Stacks</th>
-<th class="chips" scope="col">In</th></tr></thead><tbody id="steps"></tbody></table></div></div>
-<section id="equity"><h3>Equity by street</h3>
-<p class="soft">With the cards that are known at the end of the hand.</p>
-<div class="wide"><table><thead><tr>
-<th scope="col">Street</th><th scope="col">Seat</th><th class="number" scope="col">Wins</th>
-<th class="number" scope="col">Boards</th><th class="number" scope="col">Of</th></tr></thead>
-<tbody id="equity-rows"></tbody></table></div></section></div></section>"""
+<tbody id="rows"></tbody></table></div></section></section>"""
 
 
 def _listed(made: Page) -> str:
@@ -116,52 +124,68 @@ def _listed(made: Page) -> str:
         parts.append(f"<p>The first {MOST_LISTED} are here event by event, the others with their "
                      "verdicts. With JavaScript the page shows each of them.</p>")
     for hand in made.hands[:MOST_LISTED]:
-        parts.append(_hand_listed(hand, made.notation))
+        parts.append(_hand_listed(hand, len(made.files) > 1))
     parts += [f"<p>{line}</p>" for line in _runs(made.hands[MOST_LISTED:])]
     return "\n".join([*parts, "</section>"])
 
 
-def _hand_listed(hand: Hand, notation: handref.Notation) -> str:
+def _hand_listed(hand: Hand, has_files: bool) -> str:
     told, refused = hand.told, hand.refused
     game = GAMES.get(told.get("g", ""), "")
     parts = [f"<h3>Hand {hand.number}{': ' + html.escape(game) if game else ''}</h3>"]
+    if has_files:
+        parts.append(f"<p><bdi>{_text(hand.file.name)}</bdi>, hand {hand.own}</p>")
     names = " ".join(f'<span class="names">p{seat} <bdi>{_text(name)}</bdi></span>'
                      for seat, name in enumerate(hand.names, 1) if name != f"p{seat}")
     if names:
         parts.append(f"<p>{names}</p>")
     if told.get("m"):
         parts.append(f'<p class="soft"><bdi>{html.escape(told["m"])}</bdi></p>')
+    parts += [f'<p><strong class="fact">{_text(fact)}</strong></p>' for fact in hand.facts]
     if refused:
-        parts.append(f'<p class="bad">{_text(_told_of(refused))}</p>')
-        parts.append(f'<p class="plain">{_text(messages.meaning(refused, notation))}</p>')
-    parts += [f"<p>{_text(fact)}</p>" for fact in hand.facts]
-    if refused and hand.text and not refused.event:
-        parts.append(f"<pre>{_lines_of(hand.text)}</pre>")
-    if told:
-        parts.append('<div class="wide"><table><thead><tr><th scope="col">Event</th><th '
-                     'scope="col">In the words of replay</th><th scope="col">Stacks</th><th '
-                     'scope="col">In</th></tr></thead><tbody>')
-        parts += [_row(*row) for row in expanded(told)]
-        if refused and refused.event and refused.action is not None:
-            parts.append(f'<tr class="refused"><td class="number">{refused.event}</td><td '
-                         f'class="words">{_text(hand.text)}</td><td></td><td '
-                         f'class="words">{_text(_reason(refused))}</td></tr>')
-        parts += [f'<tr><td></td><td class="words">{line}</td><td></td><td></td></tr>'
-                  for line in ends(told)]
-        parts.append("</tbody></table></div>")
-        if refused and told.get("o") and refused.reason not in ("stated", "rake too big"):
+        if told.get("o") and refused.reason not in ("stated", "rake too big"):
             due, *moves = max(told["o"].items())[1].split(";")
             parts.append(f"<p>{due_there(due, moves)}</p>")
+        parts.append(f'<p class="bad">{_text(_told_of(refused))}</p>')
+        parts.append(f'<p class="plain">{_text(messages.meaning(refused, hand.file.notation))}</p>')
+        if hand.text and not refused.event:
+            parts.append(f"<pre>{_lines_of(hand.text)}</pre>")
+    if told:
+        parts += ['<table class="rows events"><thead><tr><th class="number" scope="col">Event</th>'
+                  '<th scope="col"></th><th scope="col">Stacks</th><th scope="col">In</th></tr>'
+                  "</thead><tbody>", *_events(hand), "</tbody></table>"]
     return "\n".join(parts)
+
+
+def _events(hand: Hand) -> Iterator[str]:
+    """The rows of the events of a hand, its end, and what is refused."""
+    said = [_said(words, hand.names) for words in in_words(hand.told)]
+    own = hand.told.get("w")
+    for (event, words, stacks, put), sentence in zip(expanded(hand.told), said):
+        words = words if not own and event else own[event - 1] if own and event else ""
+        yield _row(str(event), sentence, words, stacks, put)
+    refused = hand.refused
+    if refused and refused.event and refused.action is not None:
+        yield _row(str(refused.event), f"refused: {_text(_reason(refused))}", hand.text,
+                   kind="refused")
+    if "f" in hand.told:
+        yield _row("end", said[-1], "\n".join(ends(hand.told)))
+
+
+def _said(words: Sequence[Part], names: Sequence[str]) -> str:
+    return "".join((f"<bdi>{html.escape(short(shown(names[seat - 1])))}</bdi>" if seat else "")
+                   + html.escape(said) for seat, said in words)
 
 
 def _lines_of(text: str) -> str:
     return "\n".join(map(_text, text.split("\n")))
 
 
-def _row(event: int, words: str, stacks: str, put: str) -> str:
-    return (f'<tr><td class="number">{event}</td><td class="words">{words}</td><td class="words">'
-            f'{stacks}</td><td class="words">{put}</td></tr>')
+def _row(event: str, said: str, own: str, stacks: str = "", put: str = "", kind: str = "") -> str:
+    chips = "".join(f'<td class="words" data-name="{name}">{chips}</td>' for name, chips in
+                    (("Stacks", stacks), ("In", put))) if stacks else "<td></td><td></td>"
+    return (f'<tr{f" class={kind}" if kind else ""}><td class="number">{event}</td><td>{said} '
+            f'<span class="own">{_lines_of(own)}</span></td>{chips}</tr>')
 
 
 def expanded(told: dict[str, Any]) -> Iterator[tuple[int, str, str, str]]:
@@ -209,28 +233,37 @@ def _data(made: Page) -> Iterator[str]:
     names: dict[str, int] = {}
     index: list[list[Any]] = []
     told: list[dict[str, Any]] = []
+    places = {id(file): place for place, file in enumerate(made.files)}
     for hand in made.hands:
         seats = [names.setdefault(name, len(names)) for name in hand.names]
-        refused = hand.refused
         pot = sum(chips for chips, _, _ in hand.told["t"]) if "t" in hand.told else None
         index.append([hand.number, hand.told.get("g", ""),
-                      _reason(refused) if refused else "", seats, pot])
+                      _reason(hand.refused) if hand.refused else "", seats, pot])
         row: dict[str, Any] = {"n": hand.number, **hand.told, "p": seats}
-        if refused:
-            event = refused.event if refused.action is not None else None
-            row["v"] = {"line": shown(_told_of(refused)), "reason": shown(_reason(refused)),
-                        "plain": messages.meaning(refused, made.notation), "event": event,
-                        "text": "\n".join(map(shown, hand.text.split("\n"))),
-                        "seat": hand.seat, "facts": [shown(fact) for fact in hand.facts]}
+        if len(made.files) > 1:
+            index[-1].append(places[id(hand.file)])
+            row["d"] = [places[id(hand.file)], hand.own]
+        if hand.refused:
+            row["v"] = _verdict(hand, hand.refused)
         told.append(row)
     listed: list[Any] = []
     for name in names:
         whole = shown(name)
         listed.append(whole if short(whole) == whole else [whole, short(whole)])
     is_packed = len(told) > _BLOCK
-    yield _part('id="index"', {"names": listed, "games": GAMES, "hands": index}, is_packed)
+    yield _part('id="index"', {"names": listed, "games": GAMES, "hands": index, "files": [
+        shown(file.name) for file in made.files]}, is_packed)
     for start in range(0, len(told), _BLOCK):
         yield _part('class="hands"', told[start:start + _BLOCK], is_packed)
+
+
+def _verdict(hand: Hand, refused: HandrefError) -> dict[str, Any]:
+    """What is wrong with a hand, for the script."""
+    event = refused.event if refused.action is not None else None
+    return {"line": shown(_told_of(refused)), "reason": shown(_reason(refused)),
+            "plain": messages.meaning(refused, hand.file.notation), "event": event,
+            "text": "\n".join(map(shown, hand.text.split("\n"))), "seat": hand.seat,
+            "facts": [shown(fact) for fact in hand.facts]}
 
 
 def _part(attribute: str, value: Any, is_packed: bool) -> str:

@@ -4,26 +4,38 @@ import os
 import re
 from concurrent.futures import ThreadPoolExecutor
 from dataclasses import dataclass, field
-from typing import Any, Callable, Iterable, Optional, TypeVar, Union
+from typing import Any, Callable, Iterable, Optional, Sequence, TypeVar, Union
 
 import handref
 from handref import Game, HandrefError, UnclearOutput, toml
 from handref.single_hands import together
 from handref.texts import shown
 from handref.places import seats_of
+from handref.sources import Source
 
 MOST_ASKED = 50  # hands that are shown with their legal moves and equity, where none are chosen
 MOST_CHOSEN = 500  # and of chosen ones
 
 
 @dataclass
+class File:
+    """A file of the page: what it is called, how it is read, and its hands, or where they are."""
+    name: str
+    notation: handref.Notation
+    game: Game
+    source: Union[bytes, Source]
+
+
+@dataclass
 class Hand:
     """A hand of the page: its verdict, a file of its own, and what the program says of it."""
-    number: int
+    number: int  # in its file; on a page of several files among all hands
     refused: Optional[HandrefError]
     data: bytes  # a file of it, or of more hands where the file was not cut
-    place: int = 1  # its number in that file
-    told: dict[str, Any] = field(default_factory=dict)  # for the script: see page.js
+    file: File
+    place: int = 1  # its number in `data`
+    own: int = 0  # its number in its file
+    told: dict[str, Any] = field(default_factory=dict)  # for the script: see page_hand.js
     text: str = ""  # the source's words of what is refused
     seat: Optional[int] = None  # that they name
     facts: list[str] = field(default_factory=list)  # what is wrong, in numbers and cards
@@ -33,15 +45,14 @@ class Hand:
 
 @dataclass
 class Page:
-    """The hands of a file that are shown, and how many it has."""
-    file: str
-    notation: handref.Notation
-    game: Game
+    """The hands of files that are shown, and how many there are."""
+    files: Sequence[File]
     hands: list[Hand] = field(default_factory=list)
     legal: int = 0
     refused: int = 0
     left: int = 0  # hands after the last that was read
-    session: Optional[handref.Session] = None
+    sessions: list[Optional[handref.Session]] = field(default_factory=list)  # of each piece
+    not_shown: list[str] = field(default_factory=list)  # files of which no hand is shown, and why
 
 
 Item = TypeVar("Item")
@@ -58,26 +69,31 @@ def at_once(call: Callable[[Item], Answer], items: Iterable[Item]) -> list[Answe
         several.shutdown(cancel_futures=True)
 
 
-def replay(made: Page, rows: list[Hand], data: bytes) -> None:
+def _words(file: File) -> list[str]:
+    """The words of a call that say how a file is read."""
+    return ["--from", file.notation, *(["--game", os.fspath(file.game)] if file.game else [])]
+
+
+def replay(file: File, rows: list[Hand], data: bytes) -> None:
     """What `replay` says of these hands, which are those of the data, and the notes of them."""
     if not rows:
         return
-    words = ["--from", made.notation, *(["--game", os.fspath(made.game)] if made.game else [])]
+    words = _words(file)
     are_legal = not any(row.refused for row in rows)
     text = handref.run(["replay", *words, *["--each"] * (not are_legal)], data).decode()
     hands = handref._replays(text)
-    if made.notation == "acpc":
+    if file.notation == "acpc":
         notes = _notes_of_log(data)
     elif are_legal:
         notes = _notes(handref.run(["convert", *words, "--to", "phh"], data).decode(), len(rows))
     else:
-        notes = _notes_of_each(made, rows, words)
+        notes = _notes_of_each(file, rows, words)
     if len(hands) != len(rows) or len(notes) != len(rows) or not text.endswith("\n"):
-        raise UnclearOutput(0, "the output of replay or convert is cut", file=made.file)
+        raise UnclearOutput(0, "the output of replay or convert is cut", file=file.name)
     for row, replayed, note in zip(rows, hands, notes):
         row.told = _told(replayed)
         if ("f" in row.told) == bool(row.refused and row.refused.reason != "stated"):
-            raise UnclearOutput(0, "the output of replay is not that of judge", file=made.file)
+            raise UnclearOutput(0, "the output of replay is not that of judge", file=file.name)
         seats = len(row.told["s"])
         row.names = [name or f"p{seat}" for seat, name in
                      enumerate(note.get("players") or [""] * seats, 1)]
@@ -148,14 +164,14 @@ def _notes_of_log(data: bytes) -> list[dict[str, Any]]:
     return found
 
 
-def _notes_of_each(made: Page, rows: list[Hand], words: list[str]) -> list[dict[str, Any]]:
+def _notes_of_each(file: File, rows: list[Hand], words: list[str]) -> list[dict[str, Any]]:
     """The notes of hands of which some are refused: `convert` gives those of the legal ones."""
     if any(row.place > 1 for row in rows):
         return [{} for _ in rows]  # Python does not read the file
     legal = [row.data for row in rows if not row.refused]
     told = iter(_notes(handref.run(["convert", *words, "--to", "phh"], together(
-        legal, made.notation)).decode(), len(legal)) if legal else [])
-    own = _note_of_phh if made.notation == "phh" else _note_of_ohh
+        legal, file.notation)).decode(), len(legal)) if legal else [])
+    own = _note_of_phh if file.notation == "phh" else _note_of_ohh
     return [own(row.data) if row.refused else next(told, {}) for row in rows]
 
 
@@ -227,20 +243,18 @@ def _moment(note: dict[str, Any]) -> str:
     return " · ".join(shown(text) for text in told if text)
 
 
-def session(made: Page, legal: bytes) -> Optional[handref.Session]:
+def session(file: File, hands: Sequence[Hand], legal: bytes) -> Optional[handref.Session]:
     """What `session` says of the legal hands, and None where names make it unclear."""
-    if not any(hand.net for hand in made.hands):
-        return None
     try:
-        told = handref.session(legal, made.notation, made.game)
+        told = handref.session(legal, file.notation, file.game)
     except UnclearOutput:
         return None
     nets: dict[str, int] = {}
-    for hand in made.hands:
+    for hand in hands:
         for name, net in hand.net:
             nets[name] = nets.get(name, 0) + net
     if {row.name: row.net for row in told.rows} != nets:
-        raise UnclearOutput(0, "the net chips of session and replay differ", file=made.file)
+        raise UnclearOutput(0, "the net chips of session and replay differ", file=file.name)
     return told
 
 
@@ -259,7 +273,7 @@ def ask_moves(made: Page, is_chosen: bool) -> None:
             if words.startswith("d db "):
                 board += len(words[5:]) // 2
                 asked += [(hand, "equity", street[board])] if board in street else []
-    answers = at_once(lambda row: _answer(made, row[0], row[1], row[2]), asked)
+    answers = at_once(lambda row: _answer(row[0], row[1], row[2]), asked)
     for (hand, command, place), answer in zip(asked, answers):
         if command == "options":
             hand.told["o"] = answer
@@ -267,25 +281,23 @@ def ask_moves(made: Page, is_chosen: bool) -> None:
             hand.told.setdefault("q", {})[place] = answer
 
 
-def _options(made: Page, hand: Hand) -> dict[int, str]:
+def _options(hand: Hand) -> dict[int, str]:
     """What `options` says of a hand at each move, and at its last point."""
-    words = ["options", "--from", made.notation, f"--hand={hand.place}"]
-    words += ["--game", os.fspath(made.game)] if made.game else []
+    words = ["options", *_words(hand.file), f"--hand={hand.place}"]
     points, _ = handref._points(handref.run(words, hand.data).decode())
     events = hand.told["e"].split(";") if hand.told["e"] else []
     if len(points) != len(events) + 1:
-        raise UnclearOutput(0, "the output of options is cut", file=made.file)
+        raise UnclearOutput(0, "the output of options is cut", file=hand.file.name)
     return {place: text.partition(": ")[2].replace("\n", ";")[:-1]
             for place, (text, words) in enumerate(zip(points, [*events, ""]))
             if not words or re.match(r"p\d+ (f|cc|cbr|pb)", words)}
 
 
-def _answer(made: Page, hand: Hand, command: str,
-            place: int) -> Union[str, dict[Any, Any]]:
+def _answer(hand: Hand, command: str, place: int) -> Union[str, dict[Any, Any]]:
     if command == "options":
-        return _options(made, hand)
+        return _options(hand)
     try:
-        told = handref.equity(hand.data, made.notation, hand.place, place, made.game)
+        told = handref.equity(hand.data, hand.file.notation, hand.place, place, hand.file.game)
     except HandrefError as error:
         if error.status != 13:
             raise

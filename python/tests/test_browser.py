@@ -9,7 +9,7 @@ import unittest
 from pages import EXAMPLES, HERE, LOG, MATCH, NAMES, Case, Parsed, named
 
 import handref
-from handref import formats, page, single_hands, toml
+from handref import event_words, formats, page, single_hands, toml
 
 BROWSERS = ("chromium-headless-shell", "chromium", "chromium-browser", "google-chrome")
 CASES = HERE.parent.parent / "tests" / "cases"
@@ -31,10 +31,10 @@ WALK = """<script>addEventListener("load", async () => {
   }
   for (let hand = 0; hand < count; hand += 1) {
     press("Home");
-    const said = [text("said")];
+    const said = [[text("own"), text("said")]];
     while (!document.getElementById("last").disabled) {
       press("ArrowRight");
-      said.push(text("said"));
+      said.push([text("own"), text("said")]);
     }
     const wide = [...document.querySelectorAll("#table text.small, #table text.won")]
       .filter((each) => each.getComputedTextLength() > 160).length;
@@ -48,6 +48,34 @@ WALK = """<script>addEventListener("load", async () => {
   document.body.append(pre);
 });</script>"""
 IS_QUICK = False  # `./handref --test` leaves these out
+
+
+# What is where after the script of a page: the lowest edges of the table and of the buttons, what is
+# wider than the window, and how many stops of the tabulator come before the buttons.
+MEASURE = """<script>addEventListener("load", async () => {
+  const at = (id) => document.getElementById(id);
+  for (let tries = 0; tries < 500 && !at("table").firstChild; tries += 1) {
+    await new Promise((done) => setTimeout(done, 20));
+  }
+  const down = (element) => element.getBoundingClientRect().bottom;
+  const shown = [...document.querySelectorAll("body *")].filter((each) =>
+    each.checkVisibility() && !each.closest("svg svg, .cut, #chosen, #events") && each.tagName !==
+    "OPTION");
+  const wide = shown.filter((each) => each.getBoundingClientRect().right > innerWidth + 1
+    || each.getBoundingClientRect().left < -1).map((each) => each.outerHTML.slice(0, 99));
+  for (const id of ["chosen", "events"]) {
+    if (at(id).scrollWidth > at(id).clientWidth) wide.push(id);
+  }
+  const stops = [...document.querySelectorAll("a[href], button, input, select, [tabindex]")]
+    .filter((each) => each.tabIndex >= 0 && !each.disabled && each.checkVisibility());
+  parent.postMessage(JSON.stringify({ table: down(at("table").firstChild), last: down(at("last")),
+    wide, links: document.querySelectorAll("#rows a").length,
+    before: stops.findIndex((each) => each.id === "on" || each.id === "range") }), "*");
+});</script>"""
+FRAME = """<!DOCTYPE html><iframe src="%s" width="%d" height="%d" style="border:0"></iframe><pre
+id="told"></pre><script>addEventListener("message", (event) => {
+  document.getElementById("told").textContent = event.data;
+});</script>"""
 
 
 class Browser(Case):
@@ -77,8 +105,8 @@ class Browser(Case):
         return self.opened(self.made(hands, notation, game), place)
 
     def said(self, text, part):
-        found = re.search(f'id="{part}"[^>]*>(.*?)</', text, re.S)
-        return html.unescape(re.sub("<[^>]*>", "", found[1])) if found else None
+        found = re.search(rf'<(\w+) id="{part}"[^>]*>(.*?)</\1>', text, re.S)
+        return html.unescape(re.sub("<[^>]*>", "", found[2])) if found else None
 
     def walked(self, out):
         """What a page says of each event of each hand, as somebody goes there by keys."""
@@ -117,37 +145,74 @@ class Browser(Case):
         replayed = "\n".join(self.lines(hands, "phh")).split("hand ")[1:]
         walked = self.walked(self.made(hands, "phh"))
         self.assertEqual(len(walked), 11)
-        for (head, said, wide), name, wanted in zip(walked, formats.GAMES.values(), replayed):
+        index, told = Parsed(page.page(hands, "phh")).parts()
+        for (head, said, wide), name, wanted, hand in zip(
+                walked, formats.GAMES.values(), replayed, told):
             lines = wanted.strip("\n").split("\n")[1:]
             events = [line for line in lines if line[0].isdigit()]
             self.assertEqual(head.partition(": ")[2], name)
-            self.assertEqual(said, [*events, "\n".join(lines[len(events):])])
+            self.assertEqual([own for own, _ in said], [*events, "\n".join(lines[len(events):])])
+            names = [index["names"][entry] for entry in hand["p"]]
+            names = [name if isinstance(name, str) else name[1] for name in names]
+            self.assertEqual([words for _, words in said],
+                             [event_words.plain(each, names) for each in
+                              event_words.in_words(hand)])
             self.assertEqual(wide, 0, name)
+
+    def measured(self, out, width, height):
+        """What is where on a page in a window of this size."""
+        text = re.sub('<meta http-equiv="Content-Security-Policy"[^>]*>', "", out.read_text())
+        out.write_text(text.replace("</body>", MEASURE + "</body>"))
+        frame = self.folder / "frame.html"
+        frame.write_text(FRAME % (out.as_uri(), width, height))
+        return json.loads(html.unescape(self.said(self.opened(
+            frame, "", "--window-size=1400,1000"), "told")))
+
+    def test_above_the_fold(self):
+        """The table and the buttons for its events are seen at once, no column is cut, and the
+        tabulator reaches the buttons before the links of the list: on a screen and on a phone."""
+        many = "\n".join(f"[{number}]\n" + (EXAMPLES / "folds.phh").read_text().replace(
+            "cbr 6", "cbr 3" if number == 200 else "cbr 6") + 'players = ["a long name of a player"'
+            ', "another name", "Cy"]\n' for number in range(1, 301)).encode()
+        for hands, notation, game, links in (
+                (many, "phh", None, 200), (EXAMPLES / "ten_seats.phh", "phh", None, 1),
+                (EXAMPLES / "stud.phh", "phh", None, 1), (EXAMPLES / "evening.phhs", "phh", None, 3),
+                (EXAMPLES / "match.raise.acpc", "acpc", MATCH, 1)):
+            for width, height in ((1280, 800), (390, 844)):
+                with self.subTest(hands=str(hands)[:80], width=width):
+                    found = self.measured(self.made(hands, notation, game), width, height)
+                    self.assertLessEqual(found["table"], height)
+                    self.assertLessEqual(found["last"], height)
+                    self.assertGreater(found["table"], found["last"])
+                    self.assertEqual(found["wide"], [])
+                    self.assertEqual(found["links"], links)
+                    self.assertIn(found["before"], range(6))
 
     def test_events(self):
         replayed = self.lines((EXAMPLES / "all_in.phh").read_bytes(), "phh")
         for event in (0, 18):
             text = self.dump(EXAMPLES / "all_in.phh", "phh", place=f"#hand-1-event-{event}")
-            self.assertEqual(self.said(text, "said"), replayed[event + 1])
+            self.assertEqual(self.said(text, "own"), replayed[event + 1])
         self.assertIn("Now due: over", text)
 
     def test_refused(self):
         for name, notation, game, wanted, legal in (
                 ("match.raise.acpc", "acpc", MATCH, "event 3 is refused: RaiseTooSmall",
-                 "Legal here: move p2: fold, call 50, raise to 200..20000"),
+                 "B may fold, call 50, raise to 200..20000"),
                 ("small_raise.phh", "phh", None, "event 4 is refused: RaiseTooSmall",
-                 "Legal here: move p3: fold, call 2, raise to 4..100"),
+                 "p3 may fold, call 2, raise to 4..100"),
                 ("check_for_fold.ohh", "ohh", None, "event 4 is refused: AmountDiffers",
-                 "Legal here: move p1: fold, call 200, raise to 500..20000")):
+                 "A may fold, call 200, raise to 500..20000")):
             with self.subTest(name=name):
                 text = self.dump(EXAMPLES / name, notation, game)
                 self.assertIn(wanted, text)
-                self.assertIn(legal, text)
+                self.assertIn(legal, self.said(text, "now"))
 
     def test_packed(self):
         data = b"".join(LOG % number for number in range(700))
         text = self.dump(data, "acpc", MATCH, "#hand-600-event-3")
-        self.assertEqual(self.said(text, "said"), "3 p2 cbr 300 | stacks 19900 19700 | in 100 300")
+        self.assertEqual(self.said(text, "own"), "3 p2 cbr 300 | stacks 19900 19700 | in 100 300")
+        self.assertEqual(self.said(text, "said"), "B raises to 300")
         self.assertIn('<h2 id="hand-head">Hand 600: ', text)
 
     def test_names(self):

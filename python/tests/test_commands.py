@@ -1,4 +1,5 @@
 """Tries the commands page and explain: a clear line for each fault, and no half output."""
+import gzip
 import os
 import signal
 import subprocess
@@ -6,7 +7,7 @@ import sys
 import time
 import unittest
 
-from pages import EXAMPLES, HERE, LOG, MATCH, Case
+from pages import EXAMPLES, HERE, LOG, MATCH, Case, Parsed
 
 
 class Commands(Case):
@@ -35,14 +36,19 @@ class Commands(Case):
         other = self.folder / "other.phh"
         other.write_bytes(hand.read_bytes() + b'players = ["Zo\xe9"]')
         missing = self.folder / "no\x1b[2Jsuch.phh"
-        out.write_text("before")
+        (self.folder / "a.html").mkdir()
+        foreign = self.folder / "notes.html"
+        foreign.write_text("mine")
+        self.assertEqual(self.call("page", hand, out).returncode, 0)
+        before = out.read_bytes()
         for status, line, words in (
-                (5, "no\\u{1b}[2Jsuch.phh: No such file or directory", (missing, out)),
-                (5, "Is a directory", ("--from", "phh", self.folder, out)),
+                (5, "no\\u{1b}[2Jsuch.phh: no such file or directory", (missing, out)),
                 (5, "No such file or directory", (hand, self.folder / "none" / "out.html")),
-                (5, "Is a directory", (hand, self.folder)),
-                (2, "no notation has this name", (self.folder / "hand.txt", out)),
-                (2, "would take the place of the hands", (hand, hand)),
+                (5, "Is a directory", (hand, self.folder / "a.html")),
+                (5, "hand.txt: no such file or directory", (self.folder / "hand.txt", out)),
+                (2, "hand.phh: the name of a page ends in .html", (other, hand)),
+                (2, "this file is there, and is no page of handref; --force", (hand, foreign)),
+                (2, "standard input: --from says which notation it is", ("-", out)),
                 (2, "--hand is a list of hands", ("--hand", "3,x", hand, out)),
                 (2, "there is no hand 2", ("--hand", "2", hand, out)),
                 (2, "a log needs its game file", ("--from", "acpc", hand, out)),
@@ -52,8 +58,47 @@ class Commands(Case):
             with self.subTest(line=line):
                 self.refused(status, line, "page", *words)
         self.assertEqual(hand.read_bytes(), (EXAMPLES / "folds.phh").read_bytes())
-        self.assertEqual(out.read_text(), "before")
-        self.assertEqual(sorted(os.listdir(self.folder)), ["hand.phh", "other.phh", "out.html"])
+        self.assertEqual((out.read_bytes(), foreign.read_text()), (before, "mine"))
+        self.assertEqual(sorted(os.listdir(self.folder)),
+                         ["a.html", "hand.phh", "notes.html", "other.phh", "out.html"])
+
+    def test_page_of_several(self):
+        """Folders, standard input, packed and several files; and what may be written over."""
+        out, hands = self.folder / "out.html", self.folder / "hands"
+        hands.mkdir()
+        for name in ("folds.phh", "small_raise.phh", "raise_adds.ohh", "evening.phhs"):
+            (hands / name).write_bytes((EXAMPLES / name).read_bytes())
+        (hands / "folds2.phh.gz").write_bytes(gzip.compress((EXAMPLES / "folds.phh").read_bytes()))
+        (hands / "bad.phh").write_bytes(b"min_bet = [")
+        (hands / "empty.phh").write_bytes(b"")
+        (hands / "match.acpc").write_bytes((EXAMPLES / "match.acpc").read_bytes())
+        (hands / "notes.txt").write_bytes(b"mine")
+        done = self.call("page", hands, out)
+        self.assertEqual((done.returncode, done.stderr), (0, ""))
+        index, shown = Parsed(out.read_text()).parts()
+        files = [(index["files"][row[5]], row[2]) for row in index["hands"]]
+        self.assertEqual(files, [
+            ("bad.phh", "Text"), ("evening.phhs", ""), ("evening.phhs", ""), ("evening.phhs", ""),
+            ("folds2.phh.gz", ""), ("folds.phh", ""), ("raise_adds.ohh", ""),
+            ("small_raise.phh", "RaiseTooSmall")])
+        self.assertEqual([hand["n"] for hand in shown], list(range(1, 9)))
+        self.assertEqual(shown[3]["d"], [1, 3])
+        said = "".join(Parsed(out.read_text()).said)
+        for line in ("match.acpc: a log needs its game file: --game GAME", "empty.phh: no hands",
+                     "1 file of folders: not hands"):
+            self.assertIn(line, said)
+        self.assertEqual(self.call("page", "--hand", "2,7", hands, out).returncode, 0)
+        _, shown = Parsed(out.read_text()).parts()
+        self.assertEqual([(hand["n"], hand["d"][1]) for hand in shown], [(2, 1), (7, 1)])
+        done = self.call("page", "--from", "phh", "-", out,
+                         input=(EXAMPLES / "folds.phh").read_text())
+        self.assertEqual((done.returncode, done.stderr), (0, ""))
+        self.assertIn("1 hand of <bdi>standard input</bdi>", out.read_text())
+        foreign = self.folder / "notes.html"
+        foreign.write_text("mine")
+        done = self.call("page", "--force", EXAMPLES / "folds.phh", foreign)
+        self.assertEqual((done.returncode, done.stderr), (0, ""))
+        self.assertTrue(foreign.read_text().startswith("<!DOCTYPE html>"))
 
     def test_program(self):
         """A program that is not there, is killed, or says what nobody understands."""
