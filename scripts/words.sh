@@ -57,7 +57,7 @@ handref: a converter and referee of recorded poker hands
   handref load    --seed N --hands N                     generates hands from a seed and prints six totals
 
 Tools in Python around the proved program (try --help after each):
-  handref page FILE OUT                                  an HTML page that shows the hands of a file
+  handref page PATH.. OUT.html                           an HTML page that shows the hands of files and folders
   handref many COMMAND [OPTION..] PATH..                 folders and files of any length, on all processors
   handref explain FILE [LINE]                            where a fault is, what it means, what would be legal
   handref import --out FOLDER PATH..                     files of sites, trackers and dealers, as handref reads them

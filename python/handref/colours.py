@@ -3,8 +3,8 @@
     colours.LIGHT[0], colours.DASHES[0]     # for a light background; DARK is for a dark one
 
 Any two of a row differ by 25 units or more of the colour space CIELAB, as everybody sees them and
-as those with each of the three kinds of colour blindness do; each stands out from its background by
-a contrast of 3 or more.
+as those with each of the three kinds of colour blindness do; the contrast of each to its background is
+3 or more.
 """
 
 LIGHT = (

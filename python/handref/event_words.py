@@ -1,6 +1,6 @@
 """The events of a hand in words, for those who read a page without JavaScript.
 
-    list(in_words(told, ["Ann", "Bob", "Cy"]))  # [(None, "Ann posts 1, Bob posts 2"), ..]
+    [plain(said, ["Ann", "Bob", "Cy"]) for said in in_words(hand)]  # ["Ann posts 1, ..", ..]
 
 page_hand.js says the same of the table that it shows. Words and chips are those of `replay`.
 """
@@ -35,7 +35,7 @@ def plain(said: Sequence[Part], names: Sequence[str]) -> str:
 
 
 class _Table:
-    """The chips of a hand, by which a raise is told from a bet."""
+    """The chips of a hand, which say whether an amount is a raise or a bet."""
 
     def __init__(self, told: dict[str, Any]) -> None:
         self.put = list(told["i"])

@@ -168,7 +168,8 @@ function middleOf(now, ending, next, isWrong, shape) {
   now.board.forEach((card, count) =>
     found.push(cardAt(card, x - 17 * now.board.length + 34 * count, y - 52, false)));
   if (!shape.isWide) return found;
-  const due = next.seat < 0 ? [next.due] : [`${called(next.seat)} may`, next.moves.join(" \u00b7 ")];
+  const due = next.seat < 0 ? [next.due]
+    : [`${called(next.seat)} may`, next.moves.join(" \u00b7 ")];
   (isWrong || !next.due ? [] : due).forEach((text, count) =>
     found.push(textAt("on", x, y + 20 + 22 * count, text)));
   if (isWrong || (hand.v && !hand.v.event && step === steps.length - 1)) {

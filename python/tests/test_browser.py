@@ -50,8 +50,8 @@ WALK = """<script>addEventListener("load", async () => {
 IS_QUICK = False  # `./handref --test` leaves these out
 
 
-# What is where after the script of a page: the lowest edges of the table and of the buttons, what is
-# wider than the window, and how many stops of the tabulator come before the buttons.
+# What is where after the script of a page: the lowest edges of the table and of the buttons, what
+# is wider than the window, and how many stops of the tabulator come before the buttons.
 MEASURE = """<script>addEventListener("load", async () => {
   const at = (id) => document.getElementById(id);
   for (let tries = 0; tries < 500 && !at("table").firstChild; tries += 1) {
@@ -171,9 +171,10 @@ class Browser(Case):
     def test_above_the_fold(self):
         """The table and the buttons for its events are seen at once, no column is cut, and the
         tabulator reaches the buttons before the links of the list: on a screen and on a phone."""
-        many = "\n".join(f"[{number}]\n" + (EXAMPLES / "folds.phh").read_text().replace(
-            "cbr 6", "cbr 3" if number == 200 else "cbr 6") + 'players = ["a long name of a player"'
-            ', "another name", "Cy"]\n' for number in range(1, 301)).encode()
+        names = 'players = ["a long name of a player", "another name", "Cy"]\n'
+        hand = (EXAMPLES / "folds.phh").read_text() + names
+        many = "\n".join(f"[{number}]\n" + hand.replace(
+            "cbr 6", "cbr 3" if number == 200 else "cbr 6") for number in range(1, 301)).encode()
         for hands, notation, game, links in (
                 (many, "phh", None, 200), (EXAMPLES / "ten_seats.phh", "phh", None, 1),
                 (EXAMPLES / "stud.phh", "phh", None, 1), (EXAMPLES / "evening.phhs", "phh", None, 3),

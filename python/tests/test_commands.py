@@ -82,7 +82,7 @@ class Commands(Case):
             ("folds2.phh.gz", ""), ("folds.phh", ""), ("raise_adds.ohh", ""),
             ("small_raise.phh", "RaiseTooSmall")])
         self.assertEqual([hand["n"] for hand in shown], list(range(1, 9)))
-        self.assertEqual(shown[3]["d"], [1, 3])
+        self.assertEqual(shown[3]["d"], [2, 3])
         said = "".join(Parsed(out.read_text()).said)
         for line in ("match.acpc: a log needs its game file: --game GAME", "empty.phh: no hands",
                      "1 file of folders: not hands"):
