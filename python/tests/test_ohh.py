@@ -45,7 +45,7 @@ class Numbers(unittest.TestCase):
                 self.assertEqual((result.hands, Path(out).read_bytes()), (6, wanted))
 
     def test_what_does_not_read(self):
-        """What is no hand is left as it is, and the program says why it is none, and which one."""
+        """What is no hand is left as it is, and the program says why it is not one, and which."""
         for text in ("", "{", "[]", '{"ohh"', '{"ohh":1}', '{"ohh":{', '{"x":1}', '{"ohh":{"a":1,}}', '\ufeff{"ohh":{}}',
                      "{'ohh':{}}", '{"ohh":[1]}', "[" * 100_000, '{"ohh":' + "[" * 100_000, '{"x" 1,"ohh":{}}', '{,"ohh":{}}'):
             self.assertEqual(ohh.numbered(text.encode(), 7), text.encode())

@@ -27,7 +27,7 @@ _GAMES = {("Holdem", "NL"), ("Holdem", "FL"), ("Omaha", "PL"), ("OmahaHiLo", "FL
 # Finding hands.
 
 def blocks(data: "Union[bytes, mmap.mmap]", rules: Rules) -> Iterator[tuple[int, int, int]]:
-    """The hands of a file: JSON texts, whatever stands between them. Where one does not end, the
+    """The hands of a file: JSON texts, whatever is between them. Where one does not end, the
     next one begins after an empty line, or where a line begins a hand."""
     text = data[3 if data[:3] == b"\xef\xbb\xbf" else 0:].decode("latin-1")  # a sign for each byte
     shift, end, number = len(data) - len(text), 0, 0
@@ -55,7 +55,7 @@ def _by_empty_lines(data: "Union[bytes, mmap.mmap]") -> Iterator[tuple[int, int,
 
 
 def said_of(data: "Union[bytes, mmap.mmap]", hands: Sequence[Hand], rules: Rules) -> list[str]:
-    """What is said of how the hands of a file stand in it."""
+    """What is said of the places of the hands in a file."""
     if not rules.has("documents") or not hands:
         return []
     if b"[" in data[:hands[0].start]:

@@ -239,7 +239,7 @@ def number(text: str) -> Union[int, str]:
 
 
 def clock(text: str) -> datetime.time:
-    """A time of a day: hh:mm:ss, and a fraction or not. ValueError: it is none."""
+    """A time of a day: hh:mm:ss, and a fraction or not. ValueError: it is not one."""
     front, _, part = text.partition(".")
     hour, minute, second = map(int, front.split(":"))
     return datetime.time(hour, minute, second, int((part + "000000")[:6]))

@@ -49,7 +49,7 @@ class Wild:
 
 
 def kind_of(path: str, front: bytes) -> str:
-    """The kind of a file by its first bytes, else by the end of its name; "" if it is none."""
+    """The kind of a file by its first bytes, else by the end of its name; "" if there is none."""
     front = front.removeprefix(b"\xef\xbb\xbf")
     if HEADER.search(front):
         return "text"
