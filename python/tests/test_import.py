@@ -39,7 +39,9 @@ FILES = {
     "no-limit.log": (3, 0, 0), "limit.log": (2, 0, 0), "half-chips.log": (1, 0, 0),
     "kuhn.log": (0, 0, 1), "leduc.log": (0, 0, 1), "deepstack.log": (3, 0, 0),
     "wrong-score.log": (3, 0, 0), "timing-lines.log": (2, 0, 0), "dealer-output.txt": (2, 0, 0),
-    "seats-exchanged.log": (2, 0, 0), "comments.log": (1, 0, 0)}
+    "seats-exchanged.log": (2, 0, 0), "comments.log": (1, 0, 0),
+    "pokerstars.txt": (1, 0, 0), "ggpoker.txt": (1, 0, 0), "winamax.txt": (2, 0, 0),
+    "stars.txt": (3, 0, 1)}
 
 
 def user(*words, given=b"", folder=None):
@@ -339,6 +341,101 @@ class Amounts(Case):
     def test_score(self):
         self.assertIn("wild/wrong-score.log: line 8: SCORE says 20355, due 20350\n",
                       user("--check", "wild/wrong-score.log", folder=HERE)[1])
+
+
+class Texts(Case):
+    def tables(self, name):
+        user("--out", self.out, WILD / name)
+        found = toml.read((self.out / name.replace(".txt", ".phhs")).read_text())
+        return [found[key] for key in found]
+
+    def test_the_same_hand_in_two_forms(self):
+        """A text of PokerStars and what a tracker writes of the same hand are the same hand."""
+        user("--out", self.out, WILD / "pokerstars.txt", WILD / "tracker-cash.ohh")
+        same = handref.compare(self.out / "pokerstars.phhs", "phh", self.out / "tracker-cash.ohh-to",
+                               "ohh-to", notes=False)
+        self.assertEqual(same.hands, 1)
+
+    def test_sums_by_hand(self):
+        """Side pots with a rake from each, a tournament with antes, fixed limit; in cents and chips."""
+        zoom, tournament, limit = self.tables("stars.txt")
+        # Two put in 2.00, one 1.50: pots of 4.50 and 1.00, of which 4.29 and 0.96 were collected.
+        self.assertEqual((zoom["finishing_stacks"], zoom["_rakes"]), ([0, 429, 396], [21, 4]))
+        self.assertEqual((zoom["players"], zoom["seats"]), (["two words", "(x)", "a: b"], [2, 3, 1]))
+        # 10 + 50 of 1500; 1200 - 300 + 660; 300 all-in.
+        self.assertEqual(tournament["finishing_stacks"], [1440, 1560, 0])
+        self.assertEqual((tournament["antes"], tournament["ante_trimming_status"]), ([10] * 3, True))
+        # 1.00 of each in the pot of 2.00, and 1.95 collected.
+        self.assertEqual((limit["variant"], limit["small_bet"], limit["big_bet"]), ("FT", 50, 100))
+        self.assertEqual((limit["finishing_stacks"], limit["_rakes"]), ([6075, 5095], [5]))
+        cash, chips = self.tables("winamax.txt")
+        self.assertEqual((cash["currency"], cash["finishing_stacks"]), ("EUR cents", [4975, 7910, 0]))
+        self.assertEqual(chips["finishing_stacks"], [18450 - 125, 22075 - 9050 + 18225, 0])
+        self.assertNotIn("currency", chips)
+
+    def changed(self, *pairs, name="stars.txt"):
+        text = (WILD / name).read_text()
+        for old, new in pairs:
+            self.assertIn(old, text)
+            text = text.replace(old, new, 1)
+        done = user("--check", self.put(name, text))
+        return done[1]
+
+    def test_what_does_not_agree(self):
+        """What a text says twice is compared: each of these is left out, with its cause."""
+        for old, new, said in (
+                ("raises $0.10 to $0.15", "raises $0.11 to $0.15", "a raise that does not add up"),
+                ("calls $1.85", "calls $1.84", "a call that does not add up"),
+                ("calls $1.45 and is all-in", "calls $1.40 and is all-in", "a call that does not"),
+                ("raises $1.85 to $2 and is", "raises $1.80 to $1.95 and is", "an all-in that is not"),
+                ("[2c 7d 9h] [Jc]", "[2c 7d 9s] [Jc]", "a board that does not go on"),
+                ("Board [2c 7d 9h Jc 3d]", "Board [2c 7d 9h Jc 3s]", "differs from the summary"),
+                ("Total pot $5.50", "Total pot $5.51", "pots that are not what was put in"),
+                ("| Rake $0.25", "| Rake $0.24", "not what was collected and the rake"),
+                ("(x) collected $4.29", "(x) collected $4.30", "a summary that differs"),
+                ("won ($0.96)", "won ($0.97)", "a summary that differs"),
+                ("Side pot $0.96.", "Side pot $0.97.", "pots of the summary"),
+                ("showed [Kc Kd]", "showed [Kc Kh]", "cards of a player that differ"),
+                ("posts small blind $0.02", "posts small blind $0.03", "a blind of another size"),
+                ("B: posts the ante 10", "B: posts the ante 9", "antes of different sizes"),
+                ("Uncalled bet ($0.50)", "Uncalled bet ($0.40)", "pots that are not what was put in"),
+                ("b (big blind) folded on the Flop", "b (big blind) folded before Flop",
+                 "a summary that differs")):
+            with self.subTest(new):
+                lines = self.changed((old, new))
+                self.assertIn("2 left out; 2 legal", lines)
+                self.assertIn(said, lines)
+
+    def test_what_has_no_form(self):
+        for old, new, said in (
+                ("*** FLOP *** [2c 7d 9h]", "*** FIRST FLOP *** [2c 7d 9h]", "run several times"),
+                ("y leaves the table", "y cashed out the hand for $1.20 | Cash Out Fee $0.01",
+                 "a cash-out"),
+                ("y leaves the table", "y does something new", "a line that is not known"),
+                ("(x): posts big blind $0.05", "(x): posts big blind $0.05\ny: posts big blind $0.05",
+                 "a late post"),
+                ("Hold'em No Limit ($0.02/$0.05)", "Omaha Hi/Lo Pot Limit ($0.02/$0.05)",
+                 "a game that handref does not have"),
+                ("Hold'em No Limit ($0.02/$0.05)", "6+ Hold'em No Limit ($0.02/$0.05)",
+                 "a game that handref does not have")):
+            with self.subTest(new):
+                lines = self.changed((old, new))
+                self.assertIn("2 left out", lines)
+                self.assertIn(said, lines)
+        lines = self.changed(("shows [9c 9d] (three", "shows [9c Kc] (three"))
+        self.assertIn("2 left out: ", lines)  # 9c 9d of the summary
+
+    def test_chat_is_no_move(self):
+        """What a player says is never taken for a move, and a cut text is never a whole one."""
+        lines = self.changed(('said, "hello: folds"', 'said, "(x): folds"'))
+        self.assertIn("3 legal", lines)
+        text = (WILD / "pokerstars.txt").read_text()
+        done = user("--check", self.put("cut.txt", text[:text.index("*** SUMMARY")]))
+        self.assertIn("1 left out: 1 a text that has no end", done[1])
+        done = user("--check", self.put("front.txt", "some words\n\n" + text))
+        self.assertIn("2 hands, 1 left out: 1 a text before the first hand", done[1])
+        done = user("--check", self.put("bom.txt", "\ufeff" + text.replace("\n", "\r\n") * 2))
+        self.assertIn("2 legal, 0 refused", done[1])
 
 
 class Dialects(Case):

@@ -32,6 +32,7 @@ class Play:
     big_blind: Amount = 0
     bets: tuple[Amount, Amount] = (0, 0)  # of fixed limit
     antes: dict[int, Amount] = field(default_factory=dict)
+    ante_named: Amount = 0  # by the first line of a text
     blinds: dict[int, Amount] = field(default_factory=dict)  # as they are named, straddles too
     small_blind_of: Optional[int] = None
     big_blind_of: Optional[int] = None
@@ -47,6 +48,7 @@ class Play:
     back: dict[int, Amount] = field(default_factory=dict)
     won: dict[int, Amount] = field(default_factory=dict)
     rakes: list[Amount] = field(default_factory=list)
+    pots: list[tuple[str, Amount]] = field(default_factory=list)  # what was collected from each
     has_results: bool = True
     notes: dict[str, Any] = field(default_factory=dict)
 

@@ -62,6 +62,15 @@ RULES = (
          "the final state of what the dealer sent"),
     Rule("score", "logs", "SCORE lines", "nothing: the sum of the values before it is compared, and "
          "a difference is said and makes the status 1", "it is only read"),
+    Rule("text", "texts", "hands of PokerStars, GGPoker and Winamax as the sites print them",
+         "PHH: what each player puts in by the text, gets back and collects as `finishing_stacks`, what "
+         "the house takes as `_rakes`; shows after the last move",
+         "every move, card and sum of the text is compared with another line of it, or with the replay"),
+    Rule("returned-bet", "texts", "a text whose pot is less than what was put in, and that names no "
+         "uncalled bet", "the difference as chips that come back to the player who has put in most",
+         "the pot and what was collected are compared", "bets that nobody called returned"),
+    Rule("other-lines", "texts", "lines that say nothing of the play: chat, players who come, go or are "
+         "disconnected, bounties, places in a tournament", "nothing", "no chip of the hand is in them"),
 )
 NAMES = tuple(rule.name for rule in RULES)
 

@@ -5,7 +5,7 @@ import pickle
 from dataclasses import dataclass, field
 from typing import Callable, Iterator, Optional, Sequence
 
-from handref.importing import amounts, finishing, games, logs, ohh, phh
+from handref.importing import amounts, finishing, games, logs, ohh, phh, sites
 from handref.importing.record import Hand, LeftOut, Written
 from handref.importing.rules import Rules
 from handref.importing.wild import Wild
@@ -59,6 +59,8 @@ def blocks(wild: Wild, data: phh.phhs.Bytes, call: Call) -> Iterator[tuple[int, 
         return ohh.blocks(data, call.rules)
     if wild.kind == "log":
         return logs.blocks(data)
+    if wild.kind == "text":
+        return sites.blocks(data)
     return phh.blocks(data)
 
 
@@ -88,6 +90,8 @@ def reader_of(wild: Wild) -> Callable[[Hand, bytes, Rules], None]:
     if wild.kind == "log":
         game = games.read(wild.game)
         return lambda hand, data, rules: logs.read(hand, data, rules, game)
+    if wild.kind == "text":
+        return sites.read
     return ohh.read if wild.kind in ("ohh", "ohh-to") else phh.read
 
 
@@ -113,6 +117,8 @@ def write(piece: Read, wild: Wild, units: amounts.Units, call: Call) -> list[Wri
         found = ohh.finish(piece.hands, units, call.rules, dialect_of(wild, call))
     elif wild.kind == "log":
         found = logs.finish(piece.hands, units, call.rules, games.read(wild.game))
+    elif wild.kind == "text":
+        found = sites.finish(piece.hands, units, call.rules)
     else:
         found = finishing.finish(piece.hands, units, call.rules)
     for written in found:
@@ -165,6 +171,7 @@ def need_of(found: Sequence[Read]) -> list[tuple[bool, int]]:
 def ended(wild: Wild, units: amounts.Units, written: list[Written], call: Call) -> Done:
     """What is said of a file when all its hands are written."""
     done = Done(units, written)
+    done.site = ", ".join(dict.fromkeys(each.hand.site for each in written if each.hand.site))
     if wild.kind in ("ohh", "ohh-to") and written:
         said = ohh.decide(written, dialect_of(wild, call))
         with open(wild.path, "rb") as file, mmap.mmap(
