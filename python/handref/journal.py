@@ -21,6 +21,7 @@ from typing import Any, Iterator, Optional
 
 import handref
 from handref import Notation, outputs
+from handref.sources import Region
 
 KEPT = 30 * 24 * 3600  # seconds that notes of an interrupted call are kept
 _TABLE = "create table if not exists pieces " \
@@ -44,7 +45,7 @@ class Answer:
 
     def is_done(self, call: "Call") -> bool:
         """Whether nothing was said but verdicts that are part of the answer."""
-        return all(call.is_verdict(status) for _, _, status, _ in self.problems)
+        return all(call.is_verdict(status, hand) for hand, _, status, _ in self.problems)
 
 
 @dataclass
@@ -56,10 +57,18 @@ class Call:
     drop_notes: bool = False
     keep_going: bool = False
     layout: str = "each"  # of convert: each file, one of all (join), or one for each hand (split)
-    each: bool = False  # of replay: a refused hand up to there, in place of a refused file
+    each: bool = False  # of replay: a refused hand up to there; of convert: all hands but those
 
-    def is_verdict(self, status: int) -> bool:
-        """Whether a hand that is refused is part of the answer, and does not end the call."""
+    @property
+    def leaves_out(self) -> bool:
+        """Whether a hand with which nothing can be done is left out, and not its whole file."""
+        return self.each if self.command == "convert" else \
+            self.keep_going and self.command in ("report", "session")
+
+    def is_verdict(self, status: int, hand: Optional[int] = None) -> bool:
+        """Whether what is wrong with a hand is part of the answer, and does not end the call."""
+        if self.leaves_out:
+            return hand is not None and status in (1, 3, 4, 7, 8)
         return status == 1 and (self.command == "judge" or self.each)
 
 
@@ -85,9 +94,10 @@ class Journal:
             if path != self.path:
                 self.others.update(dict.fromkeys(_pieces(path), path))
 
-    def key(self, notation: Notation, data: bytes) -> bytes:
-        """What a piece is known by."""
-        found = hashlib.sha256(self.call + notation.encode() + b"\0")
+    def key(self, region: Region, data: bytes) -> bytes:
+        """What a piece is known by. Only the first of a file is written as one call writes it."""
+        said = f"{region.source.notation} {_sum(region.source.game)} {region.number > 0}\0"
+        found = hashlib.sha256(self.call + said.encode())
         found.update(data)
         return found.digest()
 

@@ -38,6 +38,10 @@ def _task(command: argparse.ArgumentParser, name: str) -> None:
         option("--out", required=True, help="a file, or a folder for many")
         option("--drop-notes", action="store_true",
                help="leaves out the notes that the notation does not write")
+        option("--each", action="store_true", help="leaves out hands that cannot be written, and "
+               "lists them in OUT.left-out; else a file is converted whole or not at all")
+        option("--force", action="store_true",
+               help="writes over files that are there and that handref has not made")
         layout = command.add_mutually_exclusive_group()
         layout.add_argument("--join", action="store_true", help="all hands in the one file OUT")
         layout.add_argument("--split", action="store_true",
@@ -51,8 +55,13 @@ def _task(command: argparse.ArgumentParser, name: str) -> None:
         option("--each", action="store_true",
                help="each hand by itself: a refused one up to there, and then its verdict")
     option("-j", "--jobs", type=int, metavar="N", help="pieces at a time; else the processors")
-    option("-k", "--keep-going", action="store_true",
-           help="goes on after a file that is refused")
+    option("-k", "--keep-going", action="store_true", help={
+        "check": "goes on after a problem, as it does without this",
+        "report": "leaves out hands that are not legal, and says how many of which files",
+        "session": "leaves out hands that are not legal, and says how many of which files",
+    }.get(name, "goes on after a file that is refused"))
+    if name == "check":
+        option("-x", "--exit-first", action="store_true", help="ends at the first problem")
     option("--time", type=int, default=60, metavar="SECONDS",
            help="the most for a piece, 60: one that takes longer is named and left out")
     option("--resume", action="store_true",
@@ -76,25 +85,32 @@ def run_many(given: argparse.Namespace) -> int:
         layout = "join" if given.join else "split" if given.split else layout
     form = "json" if getattr(given, "json", False) else \
         "tsv" if getattr(given, "tsv", False) else "text"
+    is_check = given.task == "check"
     call = Call(given.task, given.game, getattr(given, "to", None),
-                getattr(given, "drop_notes", False), given.keep_going, layout,
+                getattr(given, "drop_notes", False),
+                not given.exit_first if is_check else given.keep_going, layout,
                 getattr(given, "each", False))
-    # What is refused is a part of the answer of check where all of it is wanted.
-    is_said = given.keep_going and given.task in ("check", "convert")
-    told = sys.stdout if is_said else sys.stderr
+    # What is refused is a part of the answer of check, and of convert where all of it is wanted.
+    is_said = is_check or given.task == "convert" and (given.keep_going or given.each)
 
     def tell(text: str) -> None:
         if shard[1] == 1:  # the call that takes all shards together says what they did
-            print(text, file=told, flush=True)
+            print(text, file=sys.stdout if is_said else sys.stderr, flush=True)
+
+    def note(text: str) -> None:
+        if shard[1] == 1:
+            print(text, file=sys.stderr, flush=True)
 
     asked = many.Asked(given.jobs, given.journal, given.resume, shard, tell, sys.stderr, form,
-                       seconds=given.time)
+                       seconds=given.time, note=note, force=getattr(given, "force", False))
     result = many.run(given.path, call, asked, given.notation, getattr(given, "out", ""))
     if shard[1] > 1:
         return 0
-    if given.task in ("check", "convert") and (given.keep_going or not result.status) or \
+    if is_said or given.task == "convert" and not result.status or \
             given.task == "judge" and form == "text" and (given.keep_going or result.status < 2):
-        print(many.summary(result), flush=True)
+        print(many.summary(result, given.task), flush=True)
+    if result.left_out:
+        note(many.left_out(result))
     return result.status
 
 

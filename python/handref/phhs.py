@@ -39,7 +39,7 @@ _LINE_END = re.compile(rb"\n|\Z")
 _SHORT = {b'"': re.compile(rb"[\"\\\n]"), b"'": re.compile(rb"['\n]")}
 _LONG = {b'"': re.compile(rb"\\|\"\"\""), b"'": re.compile(rb"'''")}
 _RUN = {b'"': re.compile(rb'"{3,5}'), b"'": re.compile(rb"'{3,5}")}
-_HAND = re.compile(rb"^[ \t]*hand[ \t]*=", re.M)
+_HAND = re.compile(rb"^[ \t]*hand[ \t]*=(?![ \t]*(?:\"\"|''))", re.M)
 _LIKE_HEADER = re.compile(rb"\n[ \t]*\[[ \t]*[\"']?([0-9]{1,18})")
 _BLOCK = 1 << 22  # bytes that are read at a time
 NUMBER = re.compile(rb"\[[ \t]*[\"']?[0-9]")  # of a header, or of something else
@@ -191,27 +191,17 @@ def lines(data: Bytes, end: int) -> int:
     return sum(data[at:min(at + (1 << 20), end)].count(b"\n") for at in range(0, end, 1 << 20))
 
 
-def numbered(block: bytes, number: int) -> bytes:
-    """The table of a hand with the key `hand`: its own, or else this number."""
-    end = block.find(b"\n") + 1
-    if not end:
-        return block + b"\nhand = %d\n" % number
-    if has_number(block, end):
-        return block
-    return block[:end] + b"hand = %d\n" % number + block[end:]
-
-
-def has_number(block: bytes, body: int = 0) -> bool:
-    """Whether a table has the key `hand`: by a search where all its lines are plain, and else by
-    reading it."""
-    at = body
+def has_number(block: bytes) -> bool:
+    """Whether a hand has the key `hand`, with more than an empty text: by a search where all its
+    lines are plain, and else by reading it."""
+    at = 0
     while (found := _PLAIN.match(block, at)) and found.end() > at:
         at = found.end()
     if at == len(block):
-        return bool(_HAND.search(block, body))
+        return bool(_HAND.search(block))
     from handref import toml
     try:
-        return "hand" in toml.read(block[body:].decode())
+        return bool(toml.read(block.decode()).get("hand", "") != "")
     except (toml.TomlError, UnicodeDecodeError):
         return True  # the program says what is wrong with it
 

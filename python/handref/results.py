@@ -7,7 +7,7 @@ from dataclasses import dataclass, field
 from typing import IO, Any, BinaryIO, Iterator, Mapping, Optional, Sequence
 
 import handref
-from handref import outputs, phhs, tables, toml
+from handref import hand_numbers, outputs, tables
 from handref.journal import Call
 from handref.sources import Source
 
@@ -26,7 +26,7 @@ class Done:
     source: Source
     parts: list[Part] = field(default_factory=list)
     rows: list[list[Any]] = field(default_factory=list)  # of each piece
-    problems: list[tuple[Optional[int], Optional[int], int, str]] = field(default_factory=list)
+    problems: list[tuple[Optional[int], str]] = field(default_factory=list)  # hand, what is said
     is_refused: bool = False  # for more than verdicts that are part of the answer
     hands: int = 0
 
@@ -209,10 +209,11 @@ class SessionSum:
 
 class Files:
     """The files that `convert` makes: of each file one, one of all (join), or one of each hand
-    (split). A file is written beside its place, and gets its name when it is whole."""
+    (split). A file is written beside its place, and gets its name when it is whole. What is left
+    out of it is listed in a file beside it."""
 
-    def __init__(self, call: Call, out: str) -> None:
-        self.call, self.out = call, out
+    def __init__(self, call: Call, out: str, force: bool) -> None:
+        self.call, self.out, self.force = call, out, force
         self.joined: list[Done] = []
 
     def take(self, done: Done) -> None:
@@ -232,79 +233,57 @@ class Files:
 
     def _write(self, out: str, files: Sequence[Done]) -> None:
         count = sum(part.hands for done in files for part in done.parts)
-        with outputs.written(out) as file:
-            number = 0
-            for done in files:
-                for part in done.parts:
-                    for text in self._hands(part, len(files) > 1, number, count):
+        if count:
+            with outputs.written(out, self.force) as file:
+                number = 0
+                for part in (part for done in files for part in done.parts):
+                    for text in self._hands(part, number, count):
                         file.write(text)
                     number += part.hands
-        for done in files:
-            for part in done.parts:
-                os.remove(part.path)
+        for path in {part.path for done in files for part in done.parts}:
+            os.remove(path)
+        self._list_left_out(out, files)
 
-    def _hands(self, part: Part, is_joined: bool, number: int, count: int) -> Iterator[bytes]:
+    def _hands(self, part: Part, number: int, count: int) -> Iterator[bytes]:
         """What a part becomes in a file of `count` hands, after `number` of them."""
-        if self.call.to != "phh":
-            if number and self.call.to != "acpc" and part.hands:
-                yield b"\n"
-            with open(part.path, "rb") as file:
-                while block := file.read(1 << 20):
-                    yield block
-            return
+        to = self.call.to
+        assert to
         with open(part.path, "rb") as file:
             text = file.read()
-        if not is_joined and not number and part.hands == count:
+        is_each = self.call.layout == "each" and not self.call.each
+        if is_each and not number and (part.hands == count or to != "phh"):
             yield text
             return
-        for place, (_, block) in enumerate(phhs.blocks(text)):
-            before = number + place
-            own = part.hands_before + place if is_joined else before
-            head = b"[%d]\n" % (before + 1) if count > 1 else b""
-            yield (b"\n" if before else b"") + head + _with_number(block, place, own).strip(b"\n") \
-                + b"\n"
+        for place, hand in enumerate(hand_numbers.placed(text, to, number, is_each), number):
+            head = b"[%d]\n" % (place + 1) if to == "phh" and count > 1 else b""
+            yield b"\n" * bool(place and to != "acpc") + head + hand
 
     def _split(self, done: Done) -> None:
-        stem = os.path.splitext(done.source.out)[0]
+        to = self.call.to
+        assert to
+        stem = os.path.join(self.out, os.path.splitext(done.source.out)[0])
+        left_out = {hand for hand, _ in done.problems}
         for part in done.parts:
             with open(part.path, "rb") as file:
                 text = file.read()
-            for place, block in enumerate(_hands_of(text, str(self.call.to))):
-                number = part.hands_before + place
-                out = os.path.join(self.out, f"{stem}-{number + 1}.{self.call.to}")
-                if self.call.to == "phh":
-                    block = _with_number(block, place, number)
-                with outputs.written(out) as new:
-                    new.write(block.strip(b"\n") + b"\n")
+            number = part.hands_before
+            for hand in hand_numbers.hands(text, to):
+                number += 1
+                while number in left_out:
+                    number += 1
+                with outputs.written(f"{stem}-{number}.{to}", self.force) as new:
+                    new.writelines(hand_numbers.placed(hand, to, 0))
             os.remove(part.path)
+        self._list_left_out(stem, [done])
 
-
-def _hands_of(text: bytes, notation: str) -> list[bytes]:
-    """The hands of what `convert` wrote."""
-    if notation == "phh":
-        return [block for _, block in phhs.blocks(text)]
-    return [line for line in text.split(b"\n") if line]
-
-
-def _with_number(block: bytes, place: int, by_default: int) -> bytes:
-    """A hand as it was written at a place of a piece, for another place: with its number, but for
-    the one that it would have there by default."""
-    found = _number_in(block)
-    if found is None:
-        return block if place == by_default else b"hand = %d\n" % place + block
-    start, end = found
-    is_default = block[start:end].strip() == b"hand = %d" % by_default
-    return block[:start] + block[end:] if is_default else block
-
-
-def _number_in(block: bytes) -> Optional[tuple[int, int]]:
-    """The line with the key `hand` in a hand that `convert` wrote."""
-    if b'"""' not in block and b"'''" not in block:  # else a line of a text may look like it
-        found = re.search(rb"^hand = .*\n", block, re.M)
-        return found.span() if found else None
-    text = block.decode()
-    place = toml.places(text).get(("hand",))
-    if place is None or place.key is None:
-        return None
-    start, end = len(text[:place.key].encode()), len(text[:place.end].encode())
-    return start, block.index(b"\n", end) + 1
+    def _list_left_out(self, out: str, files: Sequence[Done]) -> None:
+        """Writes the list of the hands that a file could have had, or takes an old one away."""
+        lines = [f"{done.source.shown}: {said}\n" for done in files for _, said in done.problems]
+        if not self.call.each:
+            return
+        if lines:
+            with outputs.written(f"{out}.left-out", self.force) as file:
+                file.write("".join(lines).encode())
+        elif os.path.exists(f"{out}.left-out"):
+            outputs.refuse_to_replace(f"{out}.left-out", self.force)
+            os.remove(f"{out}.left-out")

@@ -1,14 +1,17 @@
-"""The hands of a file one by one, each as a file of its own, and verdicts on all of them."""
+"""The hands of a file one by one, each as a file of its own, and what is done with each."""
 import datetime
 import re
 from dataclasses import replace
-from typing import Any, Iterable, Optional
+from typing import Any, Callable, Iterable, Iterator, Optional, TypeVar, Union
 
 import handref
-from handref import Game, HandrefError, Piece, toml
+from handref import Game, HandrefError, Piece, phhs, toml
 from handref.formats import PHH_KEYS
 
+Made = TypeVar("Made")
+
 MOST_UNREAD = 1000  # hands that cannot be read and are skipped
+_TABLE = re.compile(rb"^[ \t]*\[", re.M)
 
 
 def document(table: dict[str, Any]) -> bytes:
@@ -32,15 +35,35 @@ def _written(value: Any) -> str:
 def units(data: bytes, notation: handref.Notation) -> list[Piece]:
     """Each hand of a file as a file of its own. ValueError: a file of PHH that Python does not
     read as TOML, or that is no file of hands."""
-    if notation != "phh":
-        return list(handref.pieces(data, notation, 1))
-    found = toml.read(data.decode("utf-8-sig"))
+    if notation == "phh":
+        return [Piece(unit, "phh", 1, place, 0) for place, unit in enumerate(_tables(data))]
+    found: list[Piece] = []
+    kept, lines = b"", 0
+    for unit, is_hand, _ in handref._units(data, notation):
+        kept += unit
+        if is_hand:
+            found.append(Piece(kept, notation, 1, len(found), lines))
+            lines += kept.count(b"\n")
+            kept = b""
+    return found
+
+
+def _tables(data: bytes) -> list[bytes]:
+    """The hands of a document of PHH: as they are written where it can be cut between them."""
+    data = data.removeprefix(b"\xef\xbb\xbf")
+    try:
+        cut = list(phhs.blocks(data))
+    except phhs.NotSure:
+        cut = []
+    if cut and cut[0][0] is not None:
+        return [document(toml.read((b"[%d]\n" % number + block).decode())[str(number)])
+                if number is not None and _TABLE.search(block) else block for number, block in cut]
+    found = toml.read(data.decode())
     if "variant" in found or not found:
-        return [Piece(data, "phh", 1, 0, 0)] * bool(found)
+        return [data] * bool(found)
     if not all(re.fullmatch("[0-9]+", key) and isinstance(found[key], dict) for key in found):
         raise ValueError("the document is no file of hands")
-    order = sorted(found, key=lambda key: (int(key), key))
-    return [Piece(document(found[key]), "phh", 1, place, 0) for place, key in enumerate(order)]
+    return [document(found[key]) for key in sorted(found, key=lambda key: (int(key), key))]
 
 
 def together(files: Iterable[bytes], notation: handref.Notation) -> bytes:
@@ -58,27 +81,46 @@ def is_of_the_call(error: HandrefError) -> bool:
             or isinstance(error, handref.NoProgram) and error.status > 0)
 
 
+def apart(hands: list[Piece], make: Callable[[bytes], Made]) \
+        -> Iterator[tuple[list[Piece], Union[Made, HandrefError]]]:
+    """Makes something of groups of hands that are as great as they can be. A hand of which it
+    cannot be made is a group of its own, with what is wrong with it."""
+    place, size = 0, len(hands)
+    while place < len(hands):
+        group = hands[place:place + size]
+        try:
+            made: Union[Made, HandrefError] = make(
+                together([each.data for each in group], group[0].notation))
+            size *= 4
+        except HandrefError as error:
+            if is_of_the_call(error) or error.place == "seconds":
+                raise
+            if len(group) > 1 and error.hand != 1:
+                # Those before the hand that is named may do together.
+                size = max(1, error.hand - 1 if error.hand else len(group) // 4)
+                continue
+            made, group, size = error, group[:1], max(1, len(group) // 4)
+        yield group, made
+        place += len(group)
+
+
 def verdicts(hands: list[Piece], game: Game = None) -> list[Optional[HandrefError]]:
     """What is wrong with each of such hands, also where some do not read: None where it is legal.
     It ends after MOST_UNREAD that cannot be read, so there may be fewer verdicts than hands."""
     found: list[Optional[HandrefError]] = []
-    unread, size = 0, len(hands)
-    while len(found) < len(hands) and unread < MOST_UNREAD:
-        part = hands[len(found):len(found) + size]
-        try:
-            rows = handref.judge(together([each.data for each in part], part[0].notation),
-                                 part[0].notation, game)
-            if len(rows) != sum(each.hands for each in part):
-                raise handref.UnclearOutput(0, "the output of judge is cut")
-            found += [row.refused for row in rows]
-            size *= 4
-        except HandrefError as error:
-            if is_of_the_call(error):
-                raise
-            if len(part) == 1:
-                found.append(error)
-                unread += 1
-            size = max(1, min(size, len(part)) // 4)
+    unread = 0
+    if not hands:
+        return found
+    for group, made in apart(hands, lambda data: handref.judge(data, hands[0].notation, game)):
+        if isinstance(made, HandrefError):
+            found.append(made)
+            unread += 1
+            if unread == MOST_UNREAD:
+                break
+        elif len(made) != len(group):
+            raise handref.UnclearOutput(0, "the output of judge is cut")
+        else:
+            found += [row.refused for row in made]
     return found
 
 

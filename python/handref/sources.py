@@ -39,6 +39,7 @@ class Source:
     fault: str = ""
     name: str = ""  # what it is called, where that is not its path
     inode: int = 0  # of a file that others can write
+    game: str = ""  # the game file that is beside a log
 
     @cached_property
     def shown(self) -> str:
@@ -65,17 +66,13 @@ class Region:
     size: int
     piece: Optional[Piece] = None
     blocks: Optional[list[bytes]] = field(default=None, repr=False)
-    hands_before: int = 0
 
-    def data(self, are_numbered: bool = False) -> bytes:
-        """No more than a byte beyond what an input may have. Hands of PHH get the key `hand` where
-        it is the place in the file, and the piece does not say it."""
+    def data(self) -> bytes:
+        """No more than a byte beyond what an input may have."""
         if self.piece:
             return self.piece.data
         if self.blocks is not None:
-            before = self.hands_before
-            return b"".join(phhs.numbered(block, before + place) if are_numbered and before
-                            else block for place, block in enumerate(self.blocks))
+            return b"".join(self.blocks)
         with open(self.source.path, "rb") as file:
             file.seek(self.start)
             return file.read(min(self.size, handref.MOST_BYTES + 1))
@@ -223,20 +220,28 @@ def notation_in(path: str) -> Optional[Notation]:
     return "phh" if _PHH.search(data) else None
 
 
+NO_GAME = "a log needs a game file: --game, or a .game file beside it"
+
+
+def game_beside(source: Source) -> str:
+    """The game file that is beside a log: that with its name, or the only one there; or nothing."""
+    if source.name:
+        return ""  # the standard input
+    own = re.sub(r"(\.[^./]+)?(\.gz)?\Z", "", source.path, count=1) + ".game"
+    if os.path.isfile(own):
+        return own
+    folder = os.path.dirname(source.path)
+    found = [name for name in os.listdir(folder or ".") if name.endswith(".game")]
+    return os.path.join(folder, found[0]) if len(found) == 1 else ""
+
+
 # Pieces.
 
-def regions(source: Source, is_written: bool = False) -> Iterator[Region]:
-    """The pieces of a file, in order. Where hands are written anew, those of OHH without a number
-    get it here. NotSure: a file of PHH is too long for an input, and cannot be cut."""
+def regions(source: Source) -> Iterator[Region]:
+    """The pieces of a file, in order. NotSure: a file of PHH is too long for an input, and cannot
+    be cut."""
     is_packed = source.path.endswith(".gz")
-    if is_written and source.notation in ("ohh", "ohh-to") and (is_packed or source.size > PIECE):
-        start = 0
-        for number, piece in enumerate(handref.pieces(source.path, source.notation, 10_000)):
-            size = len(piece.data)
-            yield Region(source, number, start, 0 if is_packed else size, piece,
-                         hands_before=piece.hands_before)
-            start += size
-    elif source.notation == "phh" and (is_packed or source.size > PIECE):
+    if source.notation == "phh" and (is_packed or source.size > PIECE):
         yield from _of_tables(source)
     elif is_packed:
         yield from _packed(source)
@@ -262,8 +267,7 @@ def _of_tables(source: Source) -> Iterator[Region]:
             try:
                 for place, block in enumerate(phhs.tables(file) if length > PIECE else ()):
                     if kept and size + len(block) > PIECE:
-                        yield Region(source, number, first, 0 if is_packed else size, None, kept,
-                                     first)
+                        yield Region(source, number, first, 0 if is_packed else size, None, kept)
                         kept, first, size, number = [], place, 0, number + 1
                     kept.append(block if block.endswith(b"\n") else block + b"\n")
                     size += len(block)
@@ -272,7 +276,7 @@ def _of_tables(source: Source) -> Iterator[Region]:
                     raise
                 kept = []  # no piece was given: a file within the limit is walked first
             if kept:
-                yield Region(source, number, first, 0 if is_packed else size, None, kept, first)
+                yield Region(source, number, first, 0 if is_packed else size, None, kept)
                 return
             file.seek(0)
             data = file.read(handref.MOST_BYTES + 1)

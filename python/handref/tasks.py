@@ -1,18 +1,31 @@
 """What is done with each piece of a file, apart from all others."""
 import os
 import re
+from typing import Optional, Sequence
 
 import handref
-from handref import HandrefError, Piece, UnclearOutput, phhs, single_hands, tables
+from handref import HandrefError, Piece, UnclearOutput, hand_numbers, phhs, single_hands, tables
 from handref.journal import Answer, Call
 from handref.sources import Region, Source
 
 
 def work(region: Region, call: Call, data: bytes) -> Answer:
     """What comes of a piece with these bytes."""
-    if call.command in ("check", "judge"):
-        return judged(region, call, data)
     answer = Answer(lines=data.count(b"\n"))
+    try:
+        _made(region, call, data, answer)
+    except HandrefError as error:
+        if error.place != "seconds":
+            raise
+        return _late(region, data, error)
+    return answer
+
+
+def _made(region: Region, call: Call, data: bytes, answer: Answer) -> None:
+    """Does with a piece what the call asks for."""
+    if call.command in ("check", "judge"):
+        _judged(data, region, call, answer)
+        return
     try:
         if call.command == "convert":
             _converted(region, call, data, answer)
@@ -21,17 +34,17 @@ def work(region: Region, call: Call, data: bytes) -> Answer:
         else:
             _summed(region, call, data, answer)
     except HandrefError as error:
-        if single_hands.is_of_the_call(error):
+        if single_hands.is_of_the_call(error) or error.place == "seconds":
             raise
-        if error.place == "seconds":
-            return _late(region, data, error)
-        _note(answer, error, data, region.source)
-    return answer
+        if call.leaves_out:
+            _without_some(region, call, data, answer, error)
+        else:
+            _note(answer, error, data, region.source)
 
 
 def _late(region: Region, data: bytes, error: HandrefError) -> Answer:
     """That a piece takes too long, with the number of its hands."""
-    hands = _hands(region, data) if region.source.notation != "phh" else \
+    hands = _hands(region.source, data) if region.source.notation != "phh" else \
         len(region.blocks or ()) or phhs.counted(data)
     return Answer(hands, 0, data.count(b"\n"), [(None, None, 7, error.line)], is_late=True)
 
@@ -44,38 +57,43 @@ def _note(answer: Answer, error: HandrefError, data: bytes, source: Source) -> N
     answer.is_killed = error.status < 0
 
 
+def _note_apart(answer: Answer, error: HandrefError, hand: Piece) -> None:
+    """Notes what is wrong with a hand that was a file of its own."""
+    said = single_hands.in_its_file(error, hand)
+    answer.problems.append((hand.hands_before + 1, said.line_number, status_of(said), said.line))
+    answer.is_killed = answer.is_killed or error.status < 0
+
+
 def status_of(error: HandrefError) -> int:
     """A signal means what 8 means: the input asks for more than it was given."""
     return error.status if error.status > 0 else 8
 
 
-def _game(source: Source, call: Call) -> list[str]:
-    is_log = "acpc" in (source.notation, call.to)
-    return ["--game", os.fspath(call.game)] if call.game and is_log else []
+def _game_of(source: Source, call: Call) -> handref.Game:
+    return call.game or source.game if source.notation == "acpc" else None
 
 
-def _game_of(region: Region, call: Call) -> handref.Game:
-    return call.game if region.source.notation == "acpc" else None
+def _words(command: str, source: Source, call: Call) -> list[str]:
+    """The words of a call of the program over a piece of a file."""
+    game = call.game if call.to == "acpc" else _game_of(source, call)
+    return [command, "--from", source.notation, *(["--game", os.fspath(game)] if game else [])]
 
 
 # Judging.
 
-def judged(region: Region, call: Call, data: bytes) -> Answer:
+def _judged(data: bytes, region: Region, call: Call, answer: Answer) -> None:
     """The verdicts on the hands of a piece."""
-    source = region.source
-    answer = Answer(lines=data.count(b"\n"))
-    words = ["judge", "--from", source.notation, *_game(source, call)]
     try:
-        text = handref.run(words, data)
+        text = handref.run(_words("judge", region.source, call), data)
     except HandrefError as error:
-        return _judged_apart(data, region, call, error, answer)
+        _judged_apart(data, region, call, error, answer)
+        return
     end = re.search(rb"(?:\A|\n)legal hands: (\d+) of (\d+)\n\Z", text)
     if not end:
-        raise UnclearOutput(0, "the output of judge is cut", file=source.path)
+        raise UnclearOutput(0, "the output of judge is cut", file=region.source.path)
     answer.legal, answer.hands = int(end[1]), int(end[2])
     if answer.legal < answer.hands:
-        _note_refused(answer, text, data, source)
-    return answer
+        _note_refused(answer, text, data, region.source)
 
 
 def _note_refused(answer: Answer, text: bytes, data: bytes, source: Source) -> None:
@@ -83,38 +101,47 @@ def _note_refused(answer: Answer, text: bytes, data: bytes, source: Source) -> N
     places = tables.lines_of(data) if source.notation == "acpc" else []
     for hand, why in re.findall(rb"^hand (\d+): (?!legal$)(.*)$", text, re.M):
         answer.problems.append((int(hand), places[int(hand) - 1] if places else None, 1,
-                            f"refused: hand {int(hand)}: {why.decode()}"))
+                                f"refused: hand {int(hand)}: {why.decode()}"))
 
 
 def _judged_apart(data: bytes, region: Region, call: Call, error: HandrefError,
-                  answer: Answer) -> Answer:
-    """The verdicts where a piece is not judged as a whole: hand by hand, if all are wanted."""
-    if single_hands.is_of_the_call(error):
+                  answer: Answer) -> Optional[list[Piece]]:
+    """The verdicts where a piece is not judged as a whole: hand by hand, if all are wanted. Gives
+    the legal hands, and None where the piece could not be judged hand by hand."""
+    if single_hands.is_of_the_call(error) or error.place == "seconds":
         raise error
-    if error.place == "seconds":
-        return _late(region, data, error)
     hands: list[Piece] = []
-    if call.keep_going and error.status in (3, 7, 8) or error.status < 0:
+    if call.keep_going and error.status in (3, 7, 8) or error.status < 0 or call.leaves_out:
         try:
             hands = single_hands.units(data, region.source.notation)
         except (ValueError, HandrefError):
             pass  # a document of PHH that is no TOML, or a hand that is longer than an input
-    answer.is_killed = error.status < 0
-    if len(hands) < 2:
+    if len(hands) < 2 and not (hands and call.leaves_out):
+        answer.is_killed = error.status < 0
         answer.hands = max(1, len(hands))
-        answer.problems.append((error.hand, error.line_number, status_of(error), error.line))
-        return answer
-    found = single_hands.verdicts(hands, _game_of(region, call))
+        hand = None if call.leaves_out else error.hand  # no hand can be left out of it
+        answer.problems.append((hand, error.line_number, status_of(error), error.line))
+        return None
+    found = single_hands.verdicts(hands, _game_of(region.source, call))
     answer.hands, answer.legal = len(hands), found.count(None)
     for hand, refused in zip(hands, found):
         if refused:
-            said = single_hands.in_its_file(refused, hand)
-            place = hand.hands_before + 1
-            answer.problems.append((place, said.line_number, status_of(said), said.line))
+            _note_apart(answer, refused, hand)
     if len(found) < len(hands):
         answer.problems.append(
             (None, None, 3, f"{len(hands) - len(found)} hands after them are left"))
-    return answer
+    return [hand for hand, refused in zip(hands, found) if refused is None]
+
+
+def _without_some(region: Region, call: Call, data: bytes, answer: Answer,
+                  error: HandrefError) -> None:
+    """Does with the hands of a piece what can be done with them, and notes the others."""
+    legal = _judged_apart(data, region, call, error, answer)
+    if legal is not None and call.command == "convert":
+        _converted_apart(region.source, call, legal, answer)
+    elif legal:
+        text = single_hands.together([hand.data for hand in legal], region.source.notation)
+        _add_rows(region.source, call, text, answer)
 
 
 # Converting, replaying.
@@ -122,23 +149,61 @@ def _judged_apart(data: bytes, region: Region, call: Call, error: HandrefError,
 def _converted(region: Region, call: Call, data: bytes, answer: Answer) -> None:
     """Writes what a piece is in the other notation."""
     source = region.source
-    words = ["convert", "--from", source.notation, "--to", str(call.to), *_game(source, call)]
-    text = handref.run(words + ["--drop-notes"] * call.drop_notes, data)
+    text = _convert(source, call, data)
     hands = _hands_written(text, call)
-    if source.notation != "phh" and hands != _hands(region, data) or not (
-            text.endswith(b"\n") if text else _is_empty(region, call, data)):
+    if source.notation != "phh" and hands != _hands(source, data) or not (
+            text.endswith(b"\n") if text else _is_empty(source, call, data)):
         raise UnclearOutput(0, "the output of convert is cut", file=source.path)
     answer.hands = answer.legal = hands
+    if region.number or call.layout != "each" or call.each:
+        text = _alone(source, call, text, _bodies(region, data))
     answer.text = text
+
+
+def _convert(source: Source, call: Call, data: bytes) -> bytes:
+    words = [*_words("convert", source, call), "--to", str(call.to)]
+    return handref.run(words + ["--drop-notes"] * call.drop_notes, data)
+
+
+def _bodies(region: Region, data: bytes) -> list[bytes]:
+    """The hands of a piece, each a file of its own; none of a log, whose hands have numbers."""
+    if region.source.notation == "acpc":
+        return []
+    if region.blocks is not None:
+        return [block[block.find(b"\n") + 1:] for block in region.blocks]
+    return [hand.data for hand in single_hands.units(data, region.source.notation)]
+
+
+def _alone(source: Source, call: Call, text: bytes, bodies: Sequence[bytes]) -> bytes:
+    """What was converted, with the numbers that the hands have by themselves."""
+    assert call.to
+    are_own = hand_numbers.own(bodies, source.notation)
+    return hand_numbers.document(hand_numbers.alone(text, call.to, are_own), call.to)
+
+
+def _converted_apart(source: Source, call: Call, legal: list[Piece], answer: Answer) -> None:
+    """Writes the legal hands of a piece that the other notation can write, and notes the others."""
+    assert call.to
+    written: list[bytes] = []
+    for group, made in single_hands.apart(legal, lambda data: _convert(source, call, data)):
+        if isinstance(made, HandrefError):
+            _note_apart(answer, made, group[0])
+            answer.legal -= 1
+            continue
+        if _hands_written(made, call) != len(group):
+            raise UnclearOutput(0, "the output of convert is cut", file=source.path)
+        are_own = hand_numbers.own([hand.data for hand in group], source.notation)
+        written += hand_numbers.alone(made, call.to, are_own)
+    answer.problems.sort(key=lambda problem: problem[0] or answer.hands)
+    answer.text = hand_numbers.document(written, call.to)
 
 
 def _replayed(region: Region, call: Call, data: bytes, answer: Answer) -> None:
     """Keeps the replay of a piece as it is."""
     source = region.source
-    words = ["replay", "--from", source.notation, *_game(source, call), *["--each"] * call.each]
-    text = handref.run(words, data)
+    text = handref.run([*_words("replay", source, call), *["--each"] * call.each], data)
     end = rb"\n(finish( \d+)+|hand \d+: .+)\n\Z" if call.each else rb"\nfinish( \d+)+\n\Z"
-    if not (re.search(end, text) if text else _is_empty(region, call, data)):
+    if not (re.search(end, text) if text else _is_empty(source, call, data)):
         raise UnclearOutput(0, "the output of replay is cut", file=source.path)
     answer.hands = len(re.findall(rb"^hand \d+ ", text, re.M))
     _note_refused(answer, text, data, source)
@@ -146,16 +211,15 @@ def _replayed(region: Region, call: Call, data: bytes, answer: Answer) -> None:
     answer.text = text
 
 
-def _hands(region: Region, data: bytes) -> int:
+def _hands(source: Source, data: bytes) -> int:
     """How many hands of a log or of OHH there are."""
-    if region.source.notation == "acpc":
+    if source.notation == "acpc":
         return len(tables.lines_of(data))
-    return (region.piece and region.piece.hands) or sum(
-        piece.hands for piece in handref.pieces(data, region.source.notation))
+    return sum(piece.hands for piece in handref.pieces(data, source.notation))
 
 
-def _is_empty(region: Region, call: Call, data: bytes) -> bool:
-    return not handref.check(data, region.source.notation, _game_of(region, call))
+def _is_empty(source: Source, call: Call, data: bytes) -> bool:
+    return not handref.check(data, source.notation, _game_of(source, call))
 
 
 def _hands_written(text: bytes, call: Call) -> int:
@@ -167,25 +231,26 @@ def _hands_written(text: bytes, call: Call) -> int:
 # Reports and sessions.
 
 def _summed(region: Region, call: Call, data: bytes, answer: Answer) -> None:
-    """The rows of the report or the session of a piece."""
-    source, game = region.source, _game_of(region, call)
+    """The rows of the report or the session of a piece, and its hands."""
+    hands = _add_rows(region.source, call, data, answer)
+    if hands is None:  # a session does not say it, so they are counted in the input
+        source = region.source
+        hands = len(region.blocks) if region.blocks is not None else _hands(source, data) \
+            if source.notation != "phh" else len(handref.check(data, "phh")) if answer.rows[1:] \
+            else 0
+    answer.hands = answer.legal = hands
+
+
+def _add_rows(source: Source, call: Call, data: bytes, answer: Answer) -> Optional[int]:
+    """Adds the rows of the report or the session of hands, and gives their number if it is said."""
+    game = _game_of(source, call)
     if call.command == "report":
         said = handref.report(data, source.notation, game)
-        answer.hands = answer.legal = said.total.hands
         answer.rows = [["game", row.name, row.hands, row.chips] for row in said.games]
         answer.rows += [["name", row.name, row.hands, row.chips] for row in said.names]
-        return
+        return said.total.hands
     played = handref.session(data, source.notation, game, with_changes=False)
-    answer.hands = answer.legal = _hands_played(region, data, played)
     answer.rows = [[row.name, row.first, row.gaps, row.net, row.last, row.hands, row.entered,
                     row.raised, row.shown, row.won] for row in played.rows]
     answer.rows.append(["rake", played.rake])
-
-
-def _hands_played(region: Region, data: bytes, played: handref.Session) -> int:
-    """How many hands a session has: it does not say, so they are counted in the input."""
-    if region.blocks is not None:
-        return len(region.blocks)
-    if region.source.notation != "phh":
-        return _hands(region, data)
-    return len(handref.check(data, "phh")) if played.rows else 0
+    return None

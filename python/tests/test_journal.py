@@ -114,7 +114,7 @@ class Resume(Case):
         self.assertEqual(sorted(os.listdir(self.hands)), [f"h{number}.phh" for number in range(8)])
         self.assertGreater(len(self.own()), 1)
         before = self.calls()
-        self.assertEqual(self.call(*self.TO), (0, "legal hands: 8 of 8\nlegal files: 8 of 8\n", ""))
+        self.assertEqual(self.call(*self.TO), (0, "converted: 8 of 8 files, 8 hands\n", ""))
         self.assertLess(self.calls() - before, 8)
         written = [json.loads(line) for line in (self.folder / "all.ohh").read_text().split("\n") if line]
         self.assertEqual([hand["ohh"]["game_number"] for hand in written], [str(number) for number in range(8)])
@@ -160,7 +160,7 @@ class Resume(Case):
                                     cwd=self.hands, env=self.env) for _ in range(4)]
         for each in running:
             said = each.communicate(timeout=300)
-            self.assertEqual((each.returncode, *said), (0, "legal hands: 30 of 30\nlegal files: 30 of 30\n", ""))
+            self.assertEqual((each.returncode, *said), (0, "converted: 30 of 30 files, 30 hands\n", ""))
         self.assertEqual((self.folder / "all.ohh").read_bytes().count(b'"ohh"'), 30)
 
     def test_of_another_call(self):
