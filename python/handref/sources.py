@@ -66,6 +66,7 @@ class Region:
     size: int
     piece: Optional[Piece] = None
     blocks: Optional[list[bytes]] = field(default=None, repr=False)
+    hands_before: int = 0
 
     def data(self) -> bytes:
         """No more than a byte beyond what an input may have."""
@@ -267,7 +268,8 @@ def _of_tables(source: Source) -> Iterator[Region]:
             try:
                 for place, block in enumerate(phhs.tables(file) if length > PIECE else ()):
                     if kept and size + len(block) > PIECE:
-                        yield Region(source, number, first, 0 if is_packed else size, None, kept)
+                        yield Region(source, number, first, 0 if is_packed else size, None, kept,
+                                     first)
                         kept, first, size, number = [], place, 0, number + 1
                     kept.append(block if block.endswith(b"\n") else block + b"\n")
                     size += len(block)
@@ -276,7 +278,7 @@ def _of_tables(source: Source) -> Iterator[Region]:
                     raise
                 kept = []  # no piece was given: a file within the limit is walked first
             if kept:
-                yield Region(source, number, first, 0 if is_packed else size, None, kept)
+                yield Region(source, number, first, 0 if is_packed else size, None, kept, first)
                 return
             file.seek(0)
             data = file.read(handref.MOST_BYTES + 1)

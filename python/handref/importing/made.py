@@ -45,7 +45,7 @@ class OutFolder:
             raise ValueError(f"{texts.shown(path)}: it is there, and no import has made it as it is; "
                              "--force replaces it")
         os.makedirs(os.path.dirname(path) or ".", exist_ok=True)
-        with outputs.written(path) as file:
+        with outputs.written(path, force=True) as file:
             yield file
         with open(path, "rb") as read:
             self.made[name] = wild.sum_of(read)
@@ -64,7 +64,7 @@ class OutFolder:
         """Notes what was made."""
         lines = "".join(f"{own}  {name}\n" for name, own in sorted(self.made.items())
                         if "\n" not in name)
-        with outputs.written(self.path(MARK)) as file:
+        with outputs.written(self.path(MARK), force=True) as file:
             file.write(lines.encode("utf-8", "surrogateescape"))
 
 
