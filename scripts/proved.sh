@@ -53,11 +53,24 @@ is_released() {
 unpack_under() {
     is_released "$1/released" && return
     new=$1/released.$$
-    gzip -dc <"$archive" >"$new" 2>/dev/null && chmod 755 "$new" && is_released "$new" &&
-        runs "$new" &&
+    told=$({ trap '' XFSZ && LC_ALL=C gzip -dc <"$archive" >"$new"; } 2>&1) &&
+        chmod 755 "$new" && is_released "$new" && runs "$new" &&
         mv -f "$new" "$1/released" && return
     rm -f "$new"
+    ! is_no_room "$told" || no_room=$1
     return 1
+}
+
+# Keeps a program that lies in a folder for temporary files by a descriptor, and takes the folder
+# away at once, so that nothing is left however the call ends. Where that cannot be, the shell stays.
+hold() {
+    find_spare
+    eval "exec $spare<\"\$1\""
+    program=$1 stays=yes
+    [ -x "/proc/$$/fd/$spare" ] || return 0
+    program=/proc/$$/fd/$spare stays=''
+    leave
+    work=
 }
 
 # Whether the program runs on this machine: without words it ends with 2.
@@ -71,16 +84,24 @@ runs() {
 # with this call.
 look() {
     kind='' program=$kept/handref
+    can_keep && trap leave EXIT && forget_killed
     if [ -f "$release" ] && [ ! -f "$kept/built" ] && can_keep; then unpack_under "$kept"; fi
     begin_note
     find_proved
     found=$?
-    [ "$found" -ne 0 ] || [ -n "${stays-}" ] || note
+    case $found:$program in 0:"$kept/handref" | 0:"$kept/released") note ;; esac
     rm -f "$kept/began.$$" 2>/dev/null
     return "$found"
 }
 
+# Takes away what calls that were killed have left.
+forget_killed() {
+    find "$kept" -maxdepth 1 -type f \( -name 'began.[0-9]*' -o -name 'checked.[0-9]*' -o \
+        -name 'released.[0-9]*' \) -mmin +60 -exec rm -f {} + 2>/dev/null
+}
+
 find_proved() {
+    no_room=
     sum_sources || return 1
     if is_marked "$kept/handref" "$kept/built"; then
         kind=built
@@ -88,7 +109,9 @@ find_proved() {
         if can_keep && unpack_under "$kept"; then
             program=$kept/released
         elif use_work && unpack_under "$work"; then
-            program=$work/released stays=yes
+            hold "$work/released"
+        elif [ -n "$no_room" ]; then
+            fail "there is no room for the program of the release in $no_room"
         else
             why='the program of the release does not run here: it takes gzip, Linux on x86-64'
             why="$why and the GNU C library"
@@ -114,8 +137,11 @@ begin_note() {
     esac
 } 2>/dev/null
 
+# shellcheck disable=SC2046 # each number is a word
 note() {
-    printf '%s\n%s\n' "$kind" "$program_sum" >"$kept/checked.$$" &&
+    : >"$kept/checked.$$" &&
+        set -- $(stat -c %i "$kept/checked.$$" "$top/crates" "$program") && [ "$#" -eq 3 ] &&
+        printf '%s\n%s\n%s\n' "$kind" "$program_sum" "$*" >"$kept/checked.$$" &&
         touch -r "$kept/began.$$" "$kept/checked.$$" &&
         mv -f "$kept/checked.$$" "$kept/checked" || rm -f "$kept/checked.$$" "$kept/checked"
 } 2>/dev/null

@@ -2,8 +2,8 @@
 # program replaces the shell if possible. If the reader of its output has ended, it ends as other
 # filters do.
 
-# shellcheck shell=sh
-slip='' hands=''
+# shellcheck shell=sh disable=SC2154 # words.sh sets slip and help_is
+hands='' told='' ended='' stays='' work='' spare='' shut=''
 
 # Runs a program with words. It asks the C library for large pages, so that the kernel hands out
 # the memory of many hands in fewer pieces; a library that does not know them ignores this. The
@@ -12,15 +12,14 @@ slip='' hands=''
 run_program() {
     GLIBC_TUNABLES=glibc.malloc.hugetlb=1${GLIBC_TUNABLES:+:$GLIBC_TUNABLES}
     export GLIBC_TUNABLES
-    told=
     if [ -p /dev/stdout ]; then
         run_in_pipe "$@"
     elif [ -t 1 ] && [ "$(printf '\033\n' | shown 2>/dev/null)" = '\x1b' ]; then
         run_at_terminal "$@"
-    elif [ -z "${stays-}" ] && [ ! -t 2 ] && wanted "$@"; then
+    elif [ -z "$stays" ] && [ ! -t 2 ] && wanted "$@"; then
         exec "$@"
     elif { : >&1; } 2>/dev/null; then
-        { told=$("$@" 2>&1 >&3 3>&-) && ended=0 || ended=$?; } 3>&1
+        listen "$@"
     else
         "$@"
         ended=$?
@@ -44,7 +43,7 @@ say_more() {
 
 # Says which word is wrong, and where help is.
 tell_slip() {
-    printf 'handref: %s\n' "$slip (${help_is-handref --help})" | shown >&2
+    printf 'handref: %s\n' "$slip ($help_is)" | shown >&2
 }
 
 # Makes the file that the last word names the standard input.
@@ -80,31 +79,50 @@ wanted() {
 # line and the status of the program remain. A shell that is killed takes the program with it, where
 # setpriv can see to that.
 run_in_pipe() {
-    exec 3>&1
     if command -v setpriv >/dev/null; then
-        told=$(exec setpriv --pdeathsig KILL "$@" 2>&1 >&3 3>&-)
-        ended=$?
-        case $told in *'setpriv: '*) told=$("$@" 2>&1 >&3 3>&-) && ended=0 || ended=$? ;; esac
+        listen setpriv --pdeathsig KILL "$@"
+        case $told in *'setpriv: '*) listen "$@" ;; esac
     else
-        told=$("$@" 2>&1 >&3 3>&-)
-        ended=$?
+        listen "$@"
     fi
-    exec 3>&-
     if [ "$ended" -eq 6 ] && has_no_reader; then die_of 141; fi
 }
 
 # Runs a program whose output is a terminal. Names can have control characters, which the terminal
 # would obey.
 run_at_terminal() {
-    exec 4>&1
-    told=$({
-        {
-            told=$("$@" 2>&1 >&5 3>&- 4>&- 5>&-)
-            printf '%s %s\n' "$?" "$told" >&3
-        } 5>&1 | shown >&4
-    } 3>&1)
-    exec 4>&-
+    find_spare
+    eval "exec $spare>&1"
+    terminal=$spare
+    find_spare
+    shut="$terminal>&- $spare>&-"
+    told=$(eval "{
+        { listen \"\$@\" && printf '%s %s\n' \"\$ended\" \"\$told\" >&$spare; } |
+            shown >&$terminal
+    } $spare>&1")
+    eval "exec $terminal>&-"
     ended=${told%% *} told=${told#* }
+}
+
+# Runs a program, keeps its standard error in `told` and its status in `ended`. The program does not
+# get the descriptors that are open here alone (`shut`).
+listen() {
+    find_spare
+    eval "{
+        told=\$(exec \"\$@\" 2>&1 >&$spare $spare>&- $shut) && ended=0 || ended=\$?
+    } $spare>&1"
+}
+
+# Finds a descriptor that is not open. Those of the caller are kept: a word may name one, as
+# /dev/fd/3 does.
+find_spare() {
+    spare=3
+    while [ "$spare" -lt 9 ] && [ -e "/dev/fd/$spare" ]; do spare=$((spare + 1)); done
+}
+
+# Whether a line of a tool says that there is no room for what it writes.
+is_no_room() {
+    case $1 in *'No space left'* | *'uota exceeded'* | *'File too large'*) ;; *) return 1 ;; esac
 }
 
 # Shows control characters as `\x1b`, but for tabs and line ends.
@@ -132,7 +150,7 @@ has_no_reader() {
 # Ends by the signal of a status above 128, and takes the temporary folder of ./handref away before.
 # Where that signal is ignored, it goes on.
 die_of() {
-    [ -z "${work-}" ] || leave
+    [ -z "$work" ] || leave
     trap - HUP INT TERM PIPE
     kill -s "$(kill -l "$1")" "$$"
 }

@@ -7,7 +7,8 @@
 # add an option, put a line into `take`.
 
 # shellcheck shell=sh disable=SC2034 # the scripts that read this file print slip
-slip=
+slip=''
+help_is='./handref --help' examples_are_in=examples documents_are_in=docs manual_is=docs/handref.1
 
 commands='check replay report convert game load views options session equity judge compare'
 
@@ -85,9 +86,9 @@ Status  0 done               1 a hand is refused      2 wrong command line   3 t
 
 END
     cat <<END
-An example: handref check --from phh < ${examples_are_in-examples}/folds.phh
-Each message, and what to do about it: ${documents_are_in-docs}/MESSAGES.md
-The manual: man handref, or ${manual_is-docs/handref.1}
+An example: handref check --from phh < $examples_are_in/folds.phh
+Each message, and what to do about it: $documents_are_in/MESSAGES.md
+The manual: man handref, or $manual_is
 END
 }
 
