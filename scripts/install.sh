@@ -70,7 +70,7 @@ put() {
 # Puts a document: all documents lie in one folder with examples/ and python/, and what leads
 # elsewhere in the sources is no link.
 put_document() {
-    elsewhere='crates|scripts|bench|tests|completions|release|handref|HANDLES|python/tests'
+    elsewhere='CONTRIBUTING.md|SECURITY.md|\.editorconfig|crates|scripts|bench|tests|completions|release|handref|HANDLES|python/tests'
     sed -E -e 's|\]\(docs/|](|g' -e 's|\]\(\.\./|](|g' -e 's|\]\(LICENSE\)|](copyright)|g' \
         -e 's|\]\(docs\)|](.)|g' -e "s#\[([^][]*)\]\(($elsewhere)[^)]*\)#\1#g" "$1" >"$2"
 }

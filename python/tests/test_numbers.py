@@ -120,7 +120,7 @@ class Numbers(Case):
                           (self.folder / "all.acpc").read_text().splitlines()], ["0", "1", "2"])
 
     def test_number_in_a_long_text(self):
-        """A line of a text that looks like one with a number is none."""
+        """A line of a text that looks like one with a number is not one."""
         folder = self.hands("hands", None, None)
         for path in folder.iterdir():
             path.write_text(path.read_text() + 'venue = """\nhand = 7\nx"""\n')
