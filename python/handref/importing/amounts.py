@@ -42,7 +42,7 @@ def need(hand: Hand, value: Amount) -> None:
     if isinstance(value, Decimal):
         hand.point = hand.point or str(value)
         hand.parts = joined(hand.parts, parts_of(value))
-    else:
+    elif value > MOST:
         parts_of(value)
 
 

@@ -19,6 +19,7 @@ class Counts:
     legal: int = 0
     refused: list[str] = field(default_factory=list)
     wrong: int = 0  # stated results of files that are wrong, as a SCORE line
+    has_bug: bool = False  # a hand is left out since this package is wrong
     status: int = 0  # of the first file that cannot be read
 
     @property
@@ -29,7 +30,7 @@ class Counts:
     @property
     def exit_status(self) -> int:
         """0 only if every hand was written and is legal."""
-        return self.status or (1 if self.refused or self.wrong else 3 if self.left_out else 0)
+        return self.status or (70 if self.has_bug else 1 if self.refused or self.wrong else 3 if self.left_out else 0)
 
     def line(self) -> str:
         """The last line."""

@@ -130,6 +130,7 @@ class Taken:
         for each in done.written:
             hand = each.hand
             counts.hands += bool(hand.number)
+            counts.has_bug = counts.has_bug or hand.cause.startswith("a bug of ")
             if not hand.number or hand.cause:
                 continue
             counts.written += 1

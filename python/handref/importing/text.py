@@ -240,9 +240,9 @@ def _table(reader: Reader, line: str) -> None:
         own.players[seat] = play.Player(seat, name, number(found["stack"]))
         reader.names[name] = seat
         return
+    if reader.part == "posts" or not own.button or not own.players:
+        raise _unknown(line)
     reader.part = "posts"
-    if not own.button or not own.players:
-        raise LeftOut("a line that is not known", line)
     _line(reader, line, 1)
 
 

@@ -5,6 +5,7 @@ import pickle
 from dataclasses import dataclass, field
 from typing import Callable, Iterator, Optional, Sequence
 
+from handref import faults
 from handref.importing import amounts, finishing, games, logs, ohh, phh, sites
 from handref.importing.record import Hand, LeftOut, Written
 from handref.importing.rules import Rules
@@ -107,6 +108,8 @@ def read(piece: Piece, call: Call) -> Read:
                 reader(hand, file.read(end - start), call.rules)
             except LeftOut as why:
                 hand.leave_out(why)
+            except (ArithmeticError, AttributeError, LookupError, TypeError, ValueError) as why:
+                hand.leave_out(LeftOut(faults.bug(why)))  # it ends its hand, and not the others
             found.append(hand)
     return Read(found)
 
