@@ -5,7 +5,8 @@ import sys
 from typing import Any, Optional
 
 import handref
-from handref import formats, many, outputs, texts
+from handref import many, texts
+from handref.importing import restore
 from handref.journal import Call
 
 NOTATIONS = ("phh", "ohh", "ohh-to", "acpc")
@@ -42,6 +43,8 @@ def _task(command: argparse.ArgumentParser, name: str) -> None:
                "lists them in OUT.left-out; else a file is converted whole or not at all")
         option("--force", action="store_true",
                help="writes over files that are there and that handref has not made")
+        option("--restore", metavar="FILE", help="puts back the keys of PHH that handref does not "
+               "keep, from the other-keys.jsonl of an import")
         layout = command.add_mutually_exclusive_group()
         layout.add_argument("--join", action="store_true", help="all hands in the one file OUT")
         layout.add_argument("--split", action="store_true",
@@ -78,6 +81,9 @@ def run_many(given: argparse.Namespace) -> int:
         raise ValueError("--shard needs --journal")
     if given.jobs is not None and given.jobs < 1:
         raise ValueError("-j is 1 or more")
+    if getattr(given, "restore", None) and (given.to != "phh" or given.join or given.split
+                                            or given.each):
+        raise ValueError("--restore is for --to phh, and not for --join, --split or --each")
     if given.time < 1:
         raise ValueError("--time is 1 second or more")
     layout = "each"
@@ -106,6 +112,10 @@ def run_many(given: argparse.Namespace) -> int:
     result = many.run(given.path, call, asked, given.notation, getattr(given, "out", ""))
     if shard[1] > 1:
         return 0
+    if getattr(given, "restore", None) and result.legal_files:
+        done, missing = restore.restore(given.restore, given.out, given.path[0])
+        print(f"keys put back: {texts.counted(done, 'hand')}"
+              + (f"; not converted: {texts.counted(missing, 'hand')}" if missing else ""), flush=True)
     if is_said or given.task == "convert" and not result.status or \
             given.task == "judge" and form == "text" and (given.keep_going or result.status < 2):
         print(many.summary(result, given.task), flush=True)

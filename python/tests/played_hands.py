@@ -24,14 +24,16 @@ class Made:
     extra: list = field(default_factory=list)  # seats that are not dealt in
 
 
-def hands(seed, count, variants=("NT", "NT", "NT", "PO", "FT"), players=(2, 9), with_rake=True):
-    """Legal hands, made from a seed: players p1 to pn, whole chips."""
+def hands(seed, count, variants=("NT", "NT", "NT", "PO", "FT"), players=(2, 9), with_rake=True,
+          match=None):
+    """Legal hands, made from a seed: players p1 to pn, whole chips. With `match`, a stack, all of them
+    are no-limit hold'em with these stacks and blinds of 100 and 200, and all chips are even."""
     rnd, found, number = random.Random(seed), [], 0
     while len(found) < count:
         some = []
         for _ in range(min(2000, 2 * (count - len(found)) + 20)):
             number += 1
-            some.append(_one(rnd, number, variants, players, with_rake))
+            some.append(_one(rnd, number, variants, players, with_rake, match))
         data = [single_hands.document(made.table) for made in some]
         verdicts = handref.judge(single_hands.together(data, "phh"), "phh")
         legal = [made for made, verdict in zip(some, verdicts) if verdict.refused is None]
@@ -44,13 +46,13 @@ def hands(seed, count, variants=("NT", "NT", "NT", "PO", "FT"), players=(2, 9), 
     return found[:count]
 
 
-def _one(rnd, number, variants, players, with_rake):
+def _one(rnd, number, variants, players, with_rake, match):
     variant, n = rnd.choice(variants), rnd.randint(*players)
-    is_tournament = variant == "NT" and rnd.random() < 0.3
-    big = rnd.choice((2, 10, 50, 100, 200))
+    is_tournament = not match and variant == "NT" and rnd.random() < 0.3
+    big = 200 if match else rnd.choice((2, 10, 50, 100, 200))
     small = big // 2
     ante = rnd.choice((0, big // 10)) if is_tournament else 0
-    game = _Game(rnd, variant, n, small, big, ante)
+    game = _Game(rnd, variant, n, small, big, ante, match)
     seats = sorted(rnd.sample(range(1, 11), n))
     turn = rnd.randrange(n)
     table = {"variant": variant, "ante_trimming_status": True, "antes": [ante] * n,
@@ -72,10 +74,12 @@ def _one(rnd, number, variants, players, with_rake):
 class _Game:
     """Random betting, which need not be legal: what is not is dropped."""
 
-    def __init__(self, rnd, variant, n, small, big, ante):
-        self.rnd, self.variant, self.n, self.big = rnd, variant, n, big
+    def __init__(self, rnd, variant, n, small, big, ante, match):
+        self.rnd, self.variant, self.n, self.big, self.match = rnd, variant, n, big, match
         self.stacks = [rnd.choice((big * rnd.randint(2, 12), big * rnd.randint(20, 200),
                                    rnd.randint(big + ante + 1, 150 * big))) for _ in range(n)]
+        if match:
+            self.stacks = [match] * n
         self.left = [stack - min(ante, stack) for stack in self.stacks]
         self.dead = [min(ante, stack) for stack in self.stacks]
         self.on = [0] * n
@@ -86,6 +90,9 @@ class _Game:
         self.live = [True] * n
         self.moves, self.mucks = [], set()
         deck = rnd.sample(DECK, 52)
+        if match and rnd.random() < 0.3:  # all who show have the straight flush of the board
+            best = [rank + "s" for rank in "TJQKA"]
+            deck = [card for card in deck if card not in best] + best
         count = 4 if variant == "PO" else 2
         self.hole = ["".join(deck[count * seat:count * seat + count]) for seat in range(n)]
         self.board = deck[-5:]
@@ -117,7 +124,6 @@ class _Game:
         order = [(first + step) % self.n for step in range(self.n)]
         todo = [seat for seat in order if self.live[seat] and self.left[seat]]
         raised, size = 0, self.big
-        top = max(max(self.on), self.big if street == 0 else 0)
         if len(todo) < 2 and not any(max(self.on) > self.on[seat] for seat in todo):
             return
         while todo and sum(self.live) > 1:
@@ -142,7 +148,6 @@ class _Game:
             self.moves.append(f"p{seat + 1} cbr {to}")
             todo = [(seat + step) % self.n for step in range(1, self.n)
                     if self.live[(seat + step) % self.n] and self.left[(seat + step) % self.n]]
-        del top
 
     def target(self, seat, street, size):
         """A total to which a player may bet or raise, or nothing."""
@@ -159,7 +164,8 @@ class _Game:
             most = all_in
         if most <= least:
             return most if most == all_in else None
-        return most if self.rnd.random() < 0.2 else self.rnd.randint(least, most)
+        found = most if self.rnd.random() < 0.2 else self.rnd.randint(least, most)
+        return found - found % 2 if self.match and found < most else found
 
     def actions(self):
         """The script: cards that nobody shows are not known, but for those of the hero."""

@@ -240,6 +240,38 @@ class Promise(Case):
         self.assertEqual(len([name for name in os.listdir(self.out) if name.startswith("a.")]), 2)
 
 
+class Restore(Case):
+    def many(self, *words):
+        done = subprocess.run([sys.executable, "-m", "handref", "many", "convert", *map(str, words)],
+                              capture_output=True, env={**os.environ, "PYTHONPATH": str(HERE.parent)})
+        return done.returncode, done.stdout.decode() + done.stderr.decode()
+
+    def test_keys(self):
+        """Keys that handref does not keep come back after a conversion there and back."""
+        self.put("wild/a.phhs", "[1]\n" + FOLDS + "event = 'Main # 1'\nlevel = 27\n[2]\n"
+                 + FOLDS + "[3]\n" + FOLDS + "'odd key' = [1, 2]\ncity = \"Las\\nVegas\"\n")
+        self.put("wild/deep/b.phh", FOLDS + "url = 'https://example.org'\ntime_banks = [1, 2, 3]\n")
+        self.assertEqual(user("--out", self.out, self.folder / "wild")[0], 0)
+        keys, ohh, back = self.out / "other-keys.jsonl", self.folder / "ohh", self.folder / "back"
+        self.assertEqual(self.many("--to", "ohh", "--out", ohh, self.out)[0], 0)
+        status, said = self.many("--to", "phh", "--restore", keys, "--out", back, ohh)
+        self.assertEqual(status, 0, said)
+        self.assertIn("keys put back: 3 hands\n", said)
+        found = toml.read((back / "a.phh").read_text())
+        own = toml.read((self.folder / "wild" / "a.phhs").read_text())
+        for key in "123":
+            others = {name for name in own[key] if name not in formats.PHH_KEYS}
+            self.assertEqual({name: found[key].get(name) for name in others},
+                             {name: own[key][name] for name in others})
+        self.assertEqual(toml.read((back / "deep" / "b.phh").read_text())["time_banks"], [1, 2, 3])
+        self.assertEqual(len(handref.check(back / "a.phh", "phh")), 3)
+        self.assertEqual(self.many("--to", "ohh", "--restore", keys, "--out", back, ohh)[0], 2)
+        one = self.folder / "one.phh"
+        status, said = self.many("--to", "phh", "--restore", keys, "--out", one, ohh / "a.ohh")
+        self.assertIn("keys put back: 2 hands", said)
+        self.assertEqual(toml.read(one.read_text())["3"]["city"], "Las\nVegas")
+
+
 class Amounts(Case):
     def test_phh(self):
         table, own = self.table(CASH), toml.read(FOLDS)

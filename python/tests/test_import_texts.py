@@ -17,6 +17,7 @@ from played_hands import hands  # noqa: E402
 from test_import import user  # noqa: E402
 from wild_texts import Text, base_of  # noqa: E402
 
+IS_QUICK = False
 COUNT = int(os.environ.get("HANDREF_TESTS_HANDS", "300"))  # of each form; 10,000 before a release
 SITES = ("pokerstars", "ggpoker", "winamax")
 
