@@ -7,6 +7,8 @@ Without a scheduler two workers are started here. The files, the journal and han
 that all workers see. It needs python3-distributed.
 """
 import logging
+import os
+import shutil
 import subprocess
 import sys
 from typing import List
@@ -25,7 +27,11 @@ def main(given: List[str]) -> int:
         sys.exit(__doc__)
     address = given[1] if given[0] == "--scheduler" else None
     journal, task, *rest = given[2:] if address else given
-    words = ["handref", "many", task, *rest, "--journal", journal]
+    clone = os.path.join(os.path.dirname(os.path.abspath(__file__)), "..", "..", "handref")
+    program = shutil.which("handref") or shutil.which(clone)
+    if not program:
+        sys.exit("dask-many.py: handref is not on the path")
+    words = [program, "many", task, *rest, "--journal", journal]
     for name in ("asyncio", "distributed", "tornado"):
         logging.getLogger(name).setLevel(logging.CRITICAL)  # what is said while workers are closed
     with Client(address or LocalCluster(n_workers=2, threads_per_worker=1, processes=False,

@@ -1,7 +1,11 @@
 -- Tables of SQLite from the TSV that handref writes, in the folder of these files:
 --   handref many judge  --tsv PATH.. > judge.tsv
 --   handref many replay --tsv PATH.. > replay.tsv
+-- What an earlier call has read is replaced.
 -- `.mode tabs` would take quotation marks in names of files for its own.
+drop view if exists seats;
+drop table if exists verdicts;
+drop table if exists steps;
 .mode ascii
 .separator "\t" "\n"
 .import judge.tsv verdicts

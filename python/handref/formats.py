@@ -22,6 +22,8 @@ PHH_KEYS: tuple[str, ...] = (
     "players", "seats", "seat_count", "hand", "table", "venue", "currency", "year", "month",
     "day", "time", "time_zone")
 
+PHH_NOTES: tuple[str, ...] = PHH_KEYS[PHH_KEYS.index("players"):]
+
 
 def notation_of(path: str) -> Optional[handref.Notation]:
     """The notation of a file by the end of its name, before .gz."""

@@ -58,13 +58,14 @@ def alone(text: bytes, to: Notation, are_own: Optional[list[bool]]) -> list[byte
 def _numbered(hand: bytes, number: int) -> bytes:
     """A hand with its number, where `convert` would write it."""
     line = b"hand = %d\n" % number
-    before = None if _has_long_text(hand) else re.search(rb"^finishing_stacks = .*\n", hand, re.M)
+    before = None if has_long_text(hand) else re.search(rb"^finishing_stacks = .*\n", hand, re.M)
     end = before.end() if before else 0
     return hand[:end] + line + hand[end:]
 
 
-def _has_long_text(hand: bytes) -> bool:
-    return b'"""' in hand or b"'''" in hand  # a line of it may look like one with a key
+def has_long_text(hand: bytes) -> bool:
+    """Whether a hand may have a text of several lines, one of which looks like that of a key."""
+    return b'"""' in hand or b"'''" in hand
 
 
 def document(found: list[bytes], to: Notation) -> bytes:
@@ -97,7 +98,7 @@ def _short(hand: bytes, place: int) -> bytes:
 
 def number_in(hand: bytes) -> Optional[tuple[int, int]]:
     """The line with the key `hand` in a hand that `convert` wrote."""
-    if not _has_long_text(hand):
+    if not has_long_text(hand):
         found = re.search(rb"^hand = .*\n", hand, re.M)
         return found.span() if found else None
     text = hand.decode()

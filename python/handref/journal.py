@@ -51,10 +51,10 @@ class Answer:
 @dataclass
 class Call:
     """What is to be done with each piece."""
-    command: str  # check, judge, convert, report, session or replay
+    command: str  # check, judge, convert, report, session, replay or duplicates
     game: handref.Game = None
     to: Optional[Notation] = None
-    drop_notes: bool = False
+    drop_notes: bool = False  # of duplicates: only the play is compared
     keep_going: bool = False
     layout: str = "each"  # of convert: each file, one of all (join), or one for each hand (split)
     each: bool = False  # of replay: a refused hand up to there; of convert: all hands but those
@@ -63,7 +63,7 @@ class Call:
     def leaves_out(self) -> bool:
         """Whether a hand with which nothing can be done is left out, and not its whole file."""
         return self.each if self.command == "convert" else \
-            self.keep_going and self.command in ("report", "session")
+            self.keep_going and self.command in ("report", "session", "duplicates")
 
     def is_verdict(self, status: int, hand: Optional[int] = None) -> bool:
         """Whether what is wrong with a hand is part of the answer, and does not end the call."""

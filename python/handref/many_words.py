@@ -17,7 +17,10 @@ TASKS = {
     "report": "adds up hands and pots of each game, and the net chips of each name",
     "session": "says how the stack of each name went over all hands",
     "replay": "writes each hand step by step",
+    "duplicates": "finds hands that are there more than once, in whatever notations and files",
 }
+ALONE = ("duplicates",)  # tasks that are commands of their own too
+ON = ("check", "duplicates")  # tasks that go on after a problem without being told
 
 
 def add(commands: "Any") -> None:
@@ -27,6 +30,10 @@ def add(commands: "Any") -> None:
     several = parser.add_subparsers(dest="task", required=True, metavar="TASK")
     for name, does in TASKS.items():
         _task(several.add_parser(name, help=does, description=does), name)
+        if name in ALONE:
+            own = commands.add_parser(name, help=does, description=does)
+            own.set_defaults(command="many", task=name)
+            _task(own, name)
 
 
 def _task(command: argparse.ArgumentParser, name: str) -> None:
@@ -54,12 +61,18 @@ def _task(command: argparse.ArgumentParser, name: str) -> None:
         form.add_argument("--json", action="store_true", help="a line of JSON for each row")
         form.add_argument("--tsv", action="store_true",
                           help="columns with tabs between, and a first line with their names")
+        form.add_argument("--csv", action="store_true",
+                          help="columns with commas between, and a first line with their names")
     if name == "replay":
         option("--each", action="store_true",
                help="each hand by itself: a refused one up to there, and then its verdict")
+    if name == "duplicates":
+        option("--no-notes", action="store_true",
+               help="compares the play alone: names, dates and other notes do not count")
     option("-j", "--jobs", type=int, metavar="N", help="pieces at a time; else the processors")
     option("-k", "--keep-going", action="store_true", help={
         "check": "goes on after a problem, as it does without this",
+        "duplicates": "goes on after a problem, as it does without this",
         "report": "leaves out hands that are not legal, and says how many of which files",
         "session": "leaves out hands that are not legal, and says how many of which files",
     }.get(name, "goes on after a file that is refused"))
@@ -89,15 +102,15 @@ def run_many(given: argparse.Namespace) -> int:
     layout = "each"
     if given.task == "convert":
         layout = "join" if given.join else "split" if given.split else layout
-    form = "json" if getattr(given, "json", False) else \
-        "tsv" if getattr(given, "tsv", False) else "text"
-    is_check = given.task == "check"
+    form = next((name for name in ("json", "tsv", "csv") if getattr(given, name, False)), "text")
+    goes_on = given.keep_going or given.task in ON and not getattr(given, "exit_first", False)
     call = Call(given.task, given.game, getattr(given, "to", None),
-                getattr(given, "drop_notes", False),
-                not given.exit_first if is_check else given.keep_going, layout,
-                getattr(given, "each", False))
+                getattr(given, "drop_notes", False) or getattr(given, "no_notes", False), goes_on,
+                layout, getattr(given, "each", False))
+    if given.task == "duplicates":
+        call.to = "phh"
     # What is refused is a part of the answer of check, and of convert where all of it is wanted.
-    is_said = is_check or given.task == "convert" and (given.keep_going or given.each)
+    is_said = given.task == "check" or given.task == "convert" and (given.keep_going or given.each)
 
     def tell(text: str) -> None:
         if shard[1] == 1:  # the call that takes all shards together says what they did

@@ -4,6 +4,8 @@ import re
 import shutil
 import tempfile
 from dataclasses import dataclass, field
+from itertools import count as numbers_from
+from itertools import islice
 from typing import IO, Any, BinaryIO, Iterator, Mapping, Optional, Sequence
 
 import handref
@@ -29,6 +31,13 @@ class Done:
     problems: list[tuple[Optional[int], str]] = field(default_factory=list)  # hand, what is said
     is_refused: bool = False  # for more than verdicts that are part of the answer
     hands: int = 0
+
+
+def numbers_of(part: Part, done: Done) -> Iterator[int]:
+    """The places in their file that the hands of a part have, from 1 on, without those left out."""
+    left_out = {hand for hand, _ in done.problems}
+    found = (place for place in numbers_from(part.hands_before + 1) if place not in left_out)
+    return islice(found, part.hands)
 
 
 class Output:
@@ -63,20 +72,26 @@ class Output:
 
 
 class Rows:
-    """Rows in one of three forms: lines to read, TSV and JSON."""
+    """Rows in one of four forms: lines to read, CSV, TSV and JSON."""
 
     def __init__(self, form: str, columns: Sequence[str], output: Output) -> None:
         self.form, self.columns, self.output = form, columns, output
-        if form == "tsv":
-            output.write(tables.tsv_line(columns))
+        self.line = {"csv": tables.csv_line, "tsv": tables.tsv_line}.get(form)
+        if self.line:
+            output.write(self.line(columns))
 
     def put(self, row: Mapping[str, tables.Value], text: str = "") -> None:
         """Writes a row, or its text where it is to be read."""
         if self.form == "json":
             self.output.write(tables.json_line({name: row[name] for name in self.columns}))
-        elif self.form == "tsv":
-            self.output.write(tables.tsv_line(row[name] for name in self.columns))
+        elif self.line:
+            self.output.write(self.line(row[name] for name in self.columns))
         else:
+            self.output.write(text)
+
+    def head(self, text: str) -> None:
+        """Writes the names of columns that are to be read."""
+        if self.form == "text":
             self.output.write(text)
 
 
@@ -154,13 +169,14 @@ class ReportSum:
         """Writes the sums."""
         games, names = self.found["game"], self.found["name"]
         total = [sum(each[0] for each in games.values()), sum(each[1] for each in games.values())]
-        listed: list[Any] = [("game", name, *sums) for name, sums in _in_order(games)]
-        listed += [("total", None, *total)]
-        listed += [("name", name, *sums) for name, sums in names.items()]
-        for kind, name, hands, chips in listed:
-            text = f"{chips:>20}{hands:>8}  {tables.escaped(str(name))}\n" if kind == "name" else \
-                f"{name or 'total':<6}{hands:>8}{chips:>20}\n"
-            rows.put({"kind": kind, "name": name, "hands": hands, "chips": chips}, text)
+        rows.head(f"{'game':<6}{'hands':>8}{'pots':>20}\n")
+        for name, (hands, chips) in [*_in_order(games), ("", total)]:
+            rows.put({"kind": "game" if name else "total", "name": name or None, "hands": hands,
+                      "chips": chips}, f"{name or 'total':<6}{hands:>8}{chips:>20}\n")
+        rows.head(f"{'net':>20}{'hands':>8}  name\n")
+        for name, (hands, chips) in names.items():
+            rows.put({"kind": "name", "name": name, "hands": hands, "chips": chips},
+                     f"{chips:>20}{hands:>8}  {tables.escaped(name)}\n")
 
 
 _GAMES = ("FT", "NT", "NS", "PO", "FO/8", "F7S", "F7S/8", "FR", "N2L1D", "F2L3D", "FB")
@@ -196,6 +212,8 @@ class SessionSum:
 
     def put(self, rows: Rows) -> None:
         """Writes the rows of all names, and the rakes."""
+        rows.head("".join(f"{name:>20}" for name in self.columns[2:6])
+                  + "".join(f"{name:>8}" for name in self.columns[6:]) + "  name\n")
         for name, numbers in self.found.items():
             row: dict[str, tables.Value] = dict(zip(self.columns, ("name", name, *numbers)))
             text = "".join(f"{number:>20}" for number in numbers[:4]) + "".join(
@@ -262,15 +280,10 @@ class Files:
         to = self.call.to
         assert to
         stem = os.path.join(self.out, os.path.splitext(done.source.out)[0])
-        left_out = {hand for hand, _ in done.problems}
         for part in done.parts:
             with open(part.path, "rb") as file:
                 text = file.read()
-            number = part.hands_before
-            for hand in hand_numbers.hands(text, to):
-                number += 1
-                while number in left_out:
-                    number += 1
+            for hand, number in zip(hand_numbers.hands(text, to), numbers_of(part, done)):
                 with outputs.written(f"{stem}-{number}.{to}", self.force) as new:
                     new.writelines(hand_numbers.placed(hand, to, 0))
             os.remove(part.path)

@@ -8,7 +8,9 @@ names; as in the text format of PostgreSQL's COPY, a line end in a text is `\\n`
 backslash `\\\\` and another control character `\\xHH`, so no text can end its row. What is not
 there is null in JSON, and nothing in TSV.
 """
+import csv
 import importlib
+import io
 import json
 import re
 from typing import Any, Iterable, Iterator, Literal, Mapping, Optional, Union
@@ -55,6 +57,13 @@ def tsv_line(row: Iterable[Value]) -> str:
     """A row with tabs between its columns."""
     return "\t".join("" if value is None else str(value) if isinstance(value, int)
                      else escaped(value) for value in row) + "\n"
+
+
+def csv_line(row: Iterable[Value]) -> str:
+    """A row of CSV, as the csv module writes and reads it. Texts are as they are."""
+    file = io.StringIO()
+    csv.writer(file, lineterminator="\n").writerow(row)
+    return file.getvalue()
 
 
 def rows(command: Command, hands: Hands, notation: Notation, game: Game = None,

@@ -4,7 +4,8 @@ import re
 from typing import Optional, Sequence
 
 import handref
-from handref import HandrefError, Piece, UnclearOutput, hand_numbers, phhs, single_hands, tables
+from handref import (HandrefError, Piece, UnclearOutput, duplicates, hand_numbers, phhs,
+                     single_hands, tables)
 from handref.journal import Answer, Call
 from handref.sources import Region, Source
 
@@ -27,7 +28,7 @@ def _made(region: Region, call: Call, data: bytes, answer: Answer) -> None:
         _judged(data, region, call, answer)
         return
     try:
-        if call.command == "convert":
+        if call.command in ("convert", "duplicates"):
             _converted(region, call, data, answer)
         elif call.command == "replay":
             _replayed(region, call, data, answer)
@@ -137,7 +138,7 @@ def _without_some(region: Region, call: Call, data: bytes, answer: Answer,
                   error: HandrefError) -> None:
     """Does with the hands of a piece what can be done with them, and notes the others."""
     legal = _judged_apart(data, region, call, error, answer)
-    if legal is not None and call.command == "convert":
+    if legal is not None and call.command in ("convert", "duplicates"):
         _converted_apart(region.source, call, legal, answer)
     elif legal:
         text = single_hands.together([hand.data for hand in legal], region.source.notation)
@@ -155,7 +156,9 @@ def _converted(region: Region, call: Call, data: bytes, answer: Answer) -> None:
             text.endswith(b"\n") if text else _is_empty(source, call, data)):
         raise UnclearOutput(0, "the output of convert is cut", file=source.path)
     answer.hands = answer.legal = hands
-    if region.number or call.layout != "each" or call.each:
+    if call.command == "duplicates":
+        text = duplicates.ids(text, call.drop_notes)
+    elif region.number or call.layout != "each" or call.each:
         text = _alone(source, call, text, _bodies(region, data))
     answer.text = text
 
@@ -192,10 +195,14 @@ def _converted_apart(source: Source, call: Call, legal: list[Piece], answer: Ans
             continue
         if _hands_written(made, call) != len(group):
             raise UnclearOutput(0, "the output of convert is cut", file=source.path)
+        if call.command == "duplicates":
+            written.append(duplicates.ids(made, call.drop_notes))
+            continue
         are_own = hand_numbers.own([hand.data for hand in group], source.notation)
         written += hand_numbers.alone(made, call.to, are_own)
     answer.problems.sort(key=lambda problem: problem[0] or answer.hands)
-    answer.text = hand_numbers.document(written, call.to)
+    answer.text = b"".join(written) if call.command == "duplicates" else \
+        hand_numbers.document(written, call.to)
 
 
 def _replayed(region: Region, call: Call, data: bytes, answer: Answer) -> None:

@@ -204,7 +204,7 @@ class LeftOut(Case):
                                           if row[0] == "name"], [("A", -7900), ("B", 7900)])
                         self.assertEqual((len(self.told), result.status),
                                          (1, 1 if spoiled == "r150" else 3))
-                        self.assertEqual(many.left_out(result), f"left out: 1 hand: 1 of {wrong}")
+                        self.assertEqual(many.left_out(result), f"left out: 1 hand of {wrong}")
         call = many.Call("report", MATCH)
         with open(self.folder / "rows", "wb") as rows:
             result = many.run([str(wrong), str(log)], call, many.Asked(
