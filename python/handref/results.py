@@ -151,6 +151,20 @@ def _each_hand(file: Any, before: int) -> Iterator[str]:
 
 # Sums over all files.
 
+def of_report(said: handref.Report) -> list[list[Any]]:
+    """The rows of the report of a piece."""
+    return [["game", row.name, row.hands, row.chips] for row in said.games] + \
+        [["name", row.name, row.hands, row.chips] for row in said.names]
+
+
+def of_session(said: handref.Session) -> list[list[Any]]:
+    """The rows of the session of a piece, and its rakes."""
+    rows: list[list[Any]] = [
+        [row.name, row.first, row.gaps, row.net, row.last, row.hands, row.entered, row.raised,
+         row.shown, row.won] for row in said.rows]
+    return [*rows, ["rake", said.rake]]
+
+
 class ReportSum:
     """The reports of many files added up: games, a total, names in the order in which they come."""
     columns = tables.COLUMNS["report"]
@@ -165,18 +179,25 @@ class ReportSum:
             sums[0] += hands
             sums[1] += chips
 
-    def put(self, rows: Rows) -> None:
-        """Writes the sums."""
+    def rows(self) -> tables.Table:
+        """The games, the total and the names."""
         games, names = self.found["game"], self.found["name"]
         total = [sum(each[0] for each in games.values()), sum(each[1] for each in games.values())]
+        for kind, found in (("game", _in_order(games)), ("total", [(None, total)]),
+                            ("name", names.items())):
+            for name, (hands, chips) in found:  # type: ignore[attr-defined]
+                yield {"kind": kind, "name": name, "hands": hands, "chips": chips}
+
+    def put(self, rows: Rows) -> None:
+        """Writes the sums."""
         rows.head(f"{'game':<6}{'hands':>8}{'pots':>20}\n")
-        for name, (hands, chips) in [*_in_order(games), ("", total)]:
-            rows.put({"kind": "game" if name else "total", "name": name or None, "hands": hands,
-                      "chips": chips}, f"{name or 'total':<6}{hands:>8}{chips:>20}\n")
-        rows.head(f"{'net':>20}{'hands':>8}  name\n")
-        for name, (hands, chips) in names.items():
-            rows.put({"kind": "name", "name": name, "hands": hands, "chips": chips},
-                     f"{chips:>20}{hands:>8}  {tables.escaped(name)}\n")
+        for row in self.rows():
+            name, hands, chips = row["name"], row["hands"], row["chips"]
+            is_name = row["kind"] == "name"
+            rows.put(row, f"{chips:>20}{hands:>8}  {tables.escaped(str(name))}\n" if is_name else
+                     f"{name or 'total':<6}{hands:>8}{chips:>20}\n")
+            if row["kind"] == "total":
+                rows.head(f"{'net':>20}{'hands':>8}  name\n")
 
 
 _GAMES = ("FT", "NT", "NS", "PO", "FO/8", "F7S", "F7S/8", "FR", "N2L1D", "F2L3D", "FB")
@@ -210,17 +231,23 @@ class SessionSum:
             own[4:] = [one + two for one, two in zip(own[4:], numbers[4:])]
         self.rake += rows[-1][1] if rows else 0
 
+    def rows(self) -> tables.Table:
+        """The names; then the chips that the rakes took, as what has been won by nobody."""
+        for name, numbers in self.found.items():
+            yield dict(zip(self.columns, ("name", name, *numbers)))
+        empty: dict[str, tables.Value] = dict.fromkeys(self.columns)
+        yield {**empty, "kind": "rake", "net": self.rake}
+
     def put(self, rows: Rows) -> None:
         """Writes the rows of all names, and the rakes."""
         rows.head("".join(f"{name:>20}" for name in self.columns[2:6])
                   + "".join(f"{name:>8}" for name in self.columns[6:]) + "  name\n")
-        for name, numbers in self.found.items():
-            row: dict[str, tables.Value] = dict(zip(self.columns, ("name", name, *numbers)))
-            text = "".join(f"{number:>20}" for number in numbers[:4]) + "".join(
-                f"{number:>8}" for number in numbers[4:])
-            rows.put(row, f"{text}  {tables.escaped(name)}\n")
-        empty: dict[str, tables.Value] = dict.fromkeys(self.columns)
-        rows.put({**empty, "kind": "rake", "net": self.rake}, f"rake {self.rake}\n")
+        for row in self.rows():
+            _, name, *numbers = row.values()
+            text = "".join(f"{number or 0:>20}" for number in numbers[:4]) + "".join(
+                f"{number or 0:>8}" for number in numbers[4:])
+            rows.put(row, f"{text}  {tables.escaped(str(name))}\n" if row["kind"] == "name" else
+                     f"rake {self.rake}\n")
 
 
 # Files that are written.

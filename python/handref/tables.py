@@ -1,7 +1,7 @@
 """What the program says as rows with names of columns: for programs, sheets and data frames.
 
-    handref.rows("session", "evening.phhs", "phh")[0]["net"]
-    handref.frame("judge", "match.log", "acpc", "match.game")      # where pandas is installed
+    [row["net"] for row in handref.rows("session", "evening.phhs")]
+    handref.frame("judge", "match.log", game="match.game")      # where pandas is installed
 
 A JSON row is an object on a line. A TSV row has its columns between tabs, after a line with their
 names; as in the text format of PostgreSQL's COPY, a line end in a text is `\\n`, a tab `\\t`, a
@@ -13,10 +13,12 @@ import importlib
 import io
 import json
 import re
-from typing import Any, Iterable, Iterator, Literal, Mapping, Optional, Union
+from dataclasses import replace
+from typing import Any, Callable, Iterable, Iterator, Literal, Mapping, Optional, Union
 
 import handref
-from handref import Game, Hands, Notation
+from handref import Game, Notation, inputs
+from handref.inputs import Anything
 
 Command = Literal["check", "judge", "report", "session", "changes", "replay"]
 Value = Union[int, str, None]
@@ -66,41 +68,69 @@ def csv_line(row: Iterable[Value]) -> str:
     return file.getvalue()
 
 
-def rows(command: Command, hands: Hands, notation: Notation, game: Game = None,
-         each: bool = False) -> list[dict[str, Value]]:
-    """What a command says of hands, a dictionary for each row. With `each`, which only replay has,
-    a refused hand has the rows up to there, and one with its verdict. ValueError: no such
-    command."""
+def rows(command: Command, hands: Anything, notation: Optional[Notation] = None,
+         game: Game = None, each: bool = False) -> Table:
+    """What a command says of hands, a dictionary for each row, one after the other as they come:
+    of bytes, or of files as `inputs` takes them; where there may be several, with the name of the
+    file. With `each`, which only replay has, a refused hand has the rows up to there, and one with
+    its verdict. ValueError: no such command."""
     if command not in COLUMNS:
         raise ValueError(f"{command!r} has no rows: {', '.join(COLUMNS)} have")
     if each and command != "replay":
         raise ValueError(f"{command} has no each: replay has it")
-    return list(_replay(hands, notation, game, each) if command == "replay" else
-                _TABLES[command](hands, notation, game))
+    if command in ("report", "session"):
+        return _sums(command, hands, notation, game)
+    if command == "changes":
+        return _changes(hands, notation, game)
+    return _of_hands(command, hands, notation, game, each)
 
 
-def frame(command: Command, hands: Hands, notation: Notation, game: Game = None,
-          each: bool = False) -> Any:
+def frame(command: Command, hands: Anything, notation: Optional[Notation] = None,
+          game: Game = None, each: bool = False) -> Any:
     """The same as a data frame of pandas. ImportError: pandas is not installed."""
     pandas: Any = importlib.import_module("pandas")
-    found = pandas.DataFrame(rows(command, hands, notation, game, each),
-                             columns=list(COLUMNS[command]))
-    texts = {"verdict", "reason", "place", "said", "kind", "name", "variant", "text"}
+    is_named = inputs.are_several(hands) and command in ("check", "judge", "replay")
+    found = pandas.DataFrame(list(rows(command, hands, notation, game, each)),
+                             columns=["file"] * is_named + list(COLUMNS[command]))
+    texts = {"file", "verdict", "reason", "place", "said", "kind", "name", "variant", "text"}
     return found.astype({name: "string" if name in texts else "Int64" for name in found.columns})
 
 
-def _check(hands: Hands, notation: Notation, game: Game) -> Table:
-    for row in handref.check(hands, notation, game):
-        for seat, chips in enumerate(row.stacks, 1):
-            yield {"hand": row.hand, "seat": seat, "chips": chips}
+def _of_hands(command: Command, hands: Anything, notation: Optional[Notation], game: Game,
+              each: bool) -> Table:
+    """The rows of a command that has some for each hand."""
+    is_several = inputs.are_several(hands)
+    asks: dict[str, Callable[[bytes, Notation, Game], list[Any]]] = {
+        "check": handref.check, "judge": handref.judge,
+        "replay": lambda data, own, rules: handref.replay(data, own, rules, each)}
+    for own, found in inputs.each(hands, notation, game, asks[command], len):
+        places = lines_of(own.data) if command == "judge" and own.notation == "acpc" else None
+        for said in found:
+            line = places[said.hand - 1] + own.lines_before if places else None
+            for row in _rows_of(command, _of_file(said, own.hands_before), line):
+                yield {"file": own.file, **row} if is_several else row
 
 
-def _judge(hands: Hands, notation: Notation, game: Game) -> Table:
-    data = handref.read(hands)
-    lines = lines_of(data) if notation == "acpc" else None
-    with handref._placed(handref.path_of(hands)):
-        for row in handref.judge(data, notation, game):
-            yield verdict(row.hand, lines[row.hand - 1] if lines else None, row.refused)
+def _of_file(said: Any, before: int) -> Any:
+    """What was said of a hand of an input, with its number in the file."""
+    if not before:
+        return said
+    hand, refused = said.hand + before, getattr(said, "refused", None)
+    if refused is None:
+        return replace(said, hand=hand)
+    line = re.sub(r"hand \d+", f"hand {hand}", refused.line, count=1)
+    return replace(said, hand=hand, refused=replace(refused, hand=hand, line=line))
+
+
+def _rows_of(command: str, said: Any, line: Optional[int]) -> Table:
+    """The rows of what was said of a hand."""
+    if command == "replay":
+        yield from replay_rows(said)
+    elif command == "judge":
+        yield verdict(said.hand, line, said.refused)
+    else:
+        for seat, chips in enumerate(said.stacks, 1):
+            yield {"hand": said.hand, "seat": seat, "chips": chips}
 
 
 def lines_of(data: bytes) -> list[int]:
@@ -121,38 +151,38 @@ def verdict(hand: Optional[int], line: Optional[int],
     return row
 
 
-def _report(hands: Hands, notation: Notation, game: Game) -> Table:
-    return report_rows(handref.report(hands, notation, game))
+def _sums(command: str, hands: Anything, notation: Optional[Notation], game: Game) -> Table:
+    """The rows of the sums over all hands."""
+    from handref import results  # which takes the rows of this module
+
+    def report(data: bytes, own: Notation, rules: Game) -> list[list[Any]]:
+        return results.of_report(handref.report(data, own, rules))
+
+    def session(data: bytes, own: Notation, rules: Game) -> list[list[Any]]:
+        return results.of_session(handref.session(data, own, rules, with_changes=False))
+
+    is_report = command == "report"
+    sums = results.ReportSum() if is_report else results.SessionSum()
+    for _, found in inputs.each(hands, notation, game, report if is_report else session, len):
+        sums.add(found)
+    yield from sums.rows()
 
 
-def report_rows(said: handref.Report) -> Table:
-    """The games, the total and the names."""
-    for kind, found in (("game", said.games), ("total", (said.total,)), ("name", said.names)):
-        for row in found:
-            yield {"kind": kind, "name": row.name if kind != "total" else None,
-                   "hands": row.hands, "chips": row.chips}
+def _changes(hands: Anything, notation: Optional[Notation], game: Game) -> Table:
+    """The changes of a session. Who is in an input and was in one before does not join there."""
+    def ask(data: bytes, own: Notation, rules: Game) -> tuple[handref.Session, int]:
+        return handref.session(data, own, rules), len(handref.check(data, own, rules))
 
-
-def _session(hands: Hands, notation: Notation, game: Game) -> Table:
-    return session_rows(handref.session(hands, notation, game, with_changes=False))
-
-
-def session_rows(said: handref.Session) -> Table:
-    """The names; then the chips that the rakes took, as what has been won by nobody."""
-    for row in said.rows:
-        yield {"kind": "name", **vars(row)}
-    empty: dict[str, Value] = dict.fromkeys(COLUMNS["session"])
-    yield {**empty, "kind": "rake", "net": said.rake}
-
-
-def _changes(hands: Hands, notation: Notation, game: Game) -> Table:
-    for row in handref.session(hands, notation, game).changes:
-        yield dict(vars(row))
-
-
-def _replay(hands: Hands, notation: Notation, game: Game, each: bool) -> Table:
-    for hand in handref.replay(hands, notation, game, each):
-        yield from replay_rows(hand)
+    last: dict[str, int] = {}
+    for own, (said, _) in inputs.each(hands, notation, game, ask, lambda found: found[1]):
+        for row in said.changes:
+            kind, chips = row.kind, row.chips
+            if kind == "join" and row.name in last:
+                kind, chips = "gap", chips - last[row.name]
+            if kind == "join" or chips:
+                yield {"hand": row.hand + own.hands_before, "kind": kind, "name": row.name,
+                       "chips": chips}
+        last.update((row.name, row.last) for row in said.rows)
 
 
 def replay_rows(hand: handref.Replay) -> Table:
@@ -179,7 +209,3 @@ def replay_rows(hand: handref.Replay) -> Table:
         yield row("finish", seat, stack=stack)
     if hand.refused:
         yield row(hand.refused.line, None)
-
-
-_TABLES = {"check": _check, "judge": _judge, "report": _report, "session": _session,
-           "changes": _changes}

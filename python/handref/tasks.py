@@ -5,7 +5,7 @@ from typing import Optional, Sequence
 
 import handref
 from handref import (HandrefError, Piece, UnclearOutput, duplicates, hand_numbers, phhs,
-                     single_hands, tables)
+                     results, single_hands, tables)
 from handref.journal import Answer, Call
 from handref.sources import Region, Source
 
@@ -253,11 +253,8 @@ def _add_rows(source: Source, call: Call, data: bytes, answer: Answer) -> Option
     game = _game_of(source, call)
     if call.command == "report":
         said = handref.report(data, source.notation, game)
-        answer.rows = [["game", row.name, row.hands, row.chips] for row in said.games]
-        answer.rows += [["name", row.name, row.hands, row.chips] for row in said.names]
+        answer.rows = results.of_report(said)
         return said.total.hands
     played = handref.session(data, source.notation, game, with_changes=False)
-    answer.rows = [[row.name, row.first, row.gaps, row.net, row.last, row.hands, row.entered,
-                    row.raised, row.shown, row.won] for row in played.rows]
-    answer.rows.append(["rake", played.rake])
+    answer.rows = results.of_session(played)
     return None

@@ -93,18 +93,18 @@ class Types(Case):
 
 class Tables(Case):
     def test_rows(self):
-        rows = handref.rows("check", EXAMPLES / "folds.phh", "phh")
+        rows = list(handref.rows("check", EXAMPLES / "folds.phh", "phh"))
         self.assertEqual(rows[2], {"hand": 1, "seat": 3, "chips": 103})
         data = (EXAMPLES / "match.acpc").read_bytes() + (EXAMPLES / "match.raise.acpc").read_bytes()
-        row = handref.rows("judge", data, "acpc", EXAMPLES / "match.game")[2]
+        row = list(handref.rows("judge", data, "acpc", EXAMPLES / "match.game"))[2]
         said = "refused: hand 3: event 3, action 1: RaiseTooSmall"
         self.assertEqual([row[key] for key in ("hand", "verdict", "reason", "said")],
                          [3, "refused", "RaiseTooSmall", said])
         self.assertEqual(data.split(b"\n")[row["line"] - 1], data.strip().split(b"\n")[-1])
-        changes = handref.rows("changes", EXAMPLES / "evening.phhs", "phh")
+        changes = list(handref.rows("changes", EXAMPLES / "evening.phhs", "phh"))
         self.assertEqual(changes[4], {"hand": 3, "kind": "gap", "name": "Ann", "chips": 51})
         with self.assertRaisesRegex(ValueError, "'jugde' has no rows"):
-            handref.rows("jugde", b"", "phh")
+            list(handref.rows("jugde", b"", "phh"))
 
     def test_frame(self):
         try:

@@ -77,10 +77,10 @@ class Sums(Case):
             self.assertGreater(len(list(sources.regions(sources.sources([str(path)])[0][0]))), 2)
             _, text = self.run_("session", path, form="json")
             rows = [json.loads(line) for line in text.split("\n")[:-1]]
-            self.assertEqual(rows, handref.rows("session", path, "phh"))
+            self.assertEqual(rows, list(handref.rows("session", path, "phh")))
             _, text = self.run_("report", path, form="json")
             rows = [json.loads(line) for line in text.split("\n")[:-1]]
-            self.assertEqual(rows, handref.rows("report", path, "phh"))
+            self.assertEqual(rows, list(handref.rows("report", path, "phh")))
 
     def test_text_is_that_of_the_program(self):
         path = self.evening(5)
@@ -103,7 +103,7 @@ class Sums(Case):
         for command in ("session", "report"):
             _, text = self.run_(command, log, form="json")
             rows = [json.loads(line) for line in text.split("\n")[:-1]]
-            self.assertEqual(rows, handref.rows(command, log, "acpc", MATCH))
+            self.assertEqual(rows, list(handref.rows(command, log, "acpc", MATCH)))
 
     def test_refused(self):
         """Nothing is written where a file is refused; with --keep-going it is left out."""
@@ -122,7 +122,7 @@ class Sums(Case):
             result, text = self.run_("judge", log, form="tsv")
         rows = [line.split("\t") for line in text.split("\n")[1:-1]]
         own = [list(map(tables.tsv_line, [row.values()]))[0][:-1].split("\t")
-               for row in handref.rows("judge", log, "acpc", MATCH)]
+               for row in list(handref.rows("judge", log, "acpc", MATCH))]
         for row, other in zip(rows, own):
             self.assertEqual(row[1:10], other[:9])
         self.assertEqual((len(rows), result.status, result.legal), (24, 1, 23))
@@ -130,7 +130,7 @@ class Sums(Case):
         _, text = self.run_("replay", path, form="json")
         rows = [json.loads(line) for line in text.split("\n")[:-1]]
         self.assertEqual([{**row, "file": str(path)}
-                          for row in handref.rows("replay", path, "phh")],
+                          for row in list(handref.rows("replay", path, "phh"))],
                          [{key: row[key] for key in (*tables.COLUMNS["replay"], "file")}
                           for row in rows])
 
@@ -156,8 +156,8 @@ class Sums(Case):
         self.assertEqual(text.count(f"{log}: hand "), 24 + 2)
         self.assertEqual((result.status, result.hands, result.legal, self.told), (1, 24, 22, []))
         self.assertEqual([json.loads(line) for line in rows.split("\n")[:-1]],
-                         [{"file": str(log), **row} for row in handref.rows(
-                             "replay", log, "acpc", MATCH, each=True)])
+                         [{"file": str(log), **row} for row in list(handref.rows(
+                             "replay", log, "acpc", MATCH, each=True))])
         result, text = self.run_("replay", log)
         self.assertEqual((result.status, text, len(self.told)), (1, "", 1))
 
@@ -198,18 +198,18 @@ class Sums(Case):
         self.assertEqual(self.run_("check", *wrong, keep_going=True)[0].status, 1)
 
     def test_rows_each(self):
-        rows = handref.rows("replay", EXAMPLES / "small_raise.phh", "phh", each=True)
+        rows = list(handref.rows("replay", EXAMPLES / "small_raise.phh", "phh", each=True))
         self.assertEqual([row["event"] for row in rows if row["seat"] == 1], [0, 1, 2, 3])
         self.assertEqual({name: value for name, value in rows[-1].items() if value is not None},
                          {"hand": 1, "variant": "NT",
                           "text": "refused: hand 1: event 4, action 4: RaiseTooSmall"})
         legal = EXAMPLES / "folds.phh"
-        self.assertEqual(handref.rows("replay", legal, "phh", each=True),
-                         handref.rows("replay", legal, "phh"))
+        self.assertEqual(list(handref.rows("replay", legal, "phh", each=True)),
+                         list(handref.rows("replay", legal, "phh")))
         with self.assertRaises(handref.Refused):
-            handref.rows("replay", EXAMPLES / "small_raise.phh", "phh")
+            list(handref.rows("replay", EXAMPLES / "small_raise.phh", "phh"))
         with self.assertRaisesRegex(ValueError, "judge has no each"):
-            handref.rows("judge", legal, "phh", each=True)
+            list(handref.rows("judge", legal, "phh", each=True))
 
 
 class Documents(Case):
@@ -293,7 +293,7 @@ class Documents(Case):
         out = self.folder / "all.phhs"
         result, _ = self.run_("convert", hands, to="phh", out=out, layout="join")
         self.assertEqual(result.hands, 4)
-        said = [row["name"] for row in handref.rows("session", out, "phh")[:-1]]
+        said = [row["name"] for row in list(handref.rows("session", out, "phh"))[:-1]]
         self.assertEqual(said[:1] + said[3:5], ["N1", "N2", "N10"])
         single = self.folder / "single"
         self.run_("convert", out, to="phh", out=single, layout="split")
