@@ -61,7 +61,7 @@ Tools in Python around the proved program (try --help after each):
   handref page PATH.. OUT.html                           an HTML page that shows the hands of files and folders
   handref many COMMAND [OPTION..] PATH..                 folders and files of any length, on all processors
   handref duplicates [OPTION..] PATH..                   hands that are there more than once, in whatever notations
-  handref explain FILE [LINE]                            where a fault is, what it means, what would be legal
+  handref explain PATH.. [LINE]                          where a fault is, what it means, what would be legal
   handref import --out FOLDER PATH..                     files of sites, trackers and dealers, as handref reads them
 
 FORMAT  phh     Poker Hand History (.phh and .phhs files)

@@ -65,8 +65,7 @@ def _of_stated(hand: _Hand) -> list[str]:
     error = hand.refused
     stated, replayed = error.stated or 0, error.replayed or 0
     return [f"The source states {stated}; the replay comes to {replayed}, which is "
-            f"{abs(stated - replayed)} {'less' if replayed < stated else 'more'}. Correct it, or "
-            "leave it out where the notation allows that."]
+            f"{abs(stated - replayed)} {'less' if replayed < stated else 'more'}."]
 
 
 def _of_rake(hand: _Hand) -> list[str]:

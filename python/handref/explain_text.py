@@ -5,9 +5,9 @@ import re
 from typing import Optional
 
 import handref
-from handref import toml
-from handref.texts import shown
+from handref import site_texts, toml
 from handref.places import Spot, blocks, spot
+from handref.texts import shown
 
 Found = tuple[Optional[Spot], list[str]]
 
@@ -19,9 +19,7 @@ _MARKS = ((b"\xff\xfe\0\0", "UTF-32"), (b"\0\0\xfe\xff", "UTF-32"), (b"\xff\xfe"
 _OTHERS = (("phh", re.compile(r"\s*(#[^\n]*\s*)*(\[\d+\]\s*)?[a-z_]+ *= *['\"\[\d]"), "a PHH file"),
            ("ohh", re.compile(r'\s*\[?\s*\{\s*"'), "an OHH file"),
            ("acpc", re.compile(r"(#[^\n]*\n|\s)*STATE:"), "a log of the competition"),
-           ("", re.compile(r"\s*<"), "HTML or XML"),
-           ("", re.compile(r"\s*(PokerStars|Poker Hand #|Full Tilt|Game #|\*\*\*\*\*)"),
-            "the text of a site's hand history, which is not read"))
+           ("", re.compile(r"\s*<"), "HTML or XML"))
 _WORDS = {
     "Expecting value": "a value is expected here",
     "Expecting property name enclosed in double quotes": "a name in double quotes is expected here",
@@ -31,7 +29,8 @@ _WORDS = {
     "Expecting ':' delimiter": "a colon is expected here",
     "Unterminated string starting at": "the text that begins here has no closing quote",
     "Invalid control character at": "a control character is inside a text: a line end is \\n there",
-    "Extra data": "something follows the object: an empty line has to divide two hands"}
+    "Extra data": "something follows the object: an empty line has to divide two hands. Divide "
+                  "them: jq -c . FILE | sed G > NEW"}
 
 # One half of a character that JSON writes as two; whole characters are skipped.
 _LONE = re.compile(r"\\\\|\\u[dD][89abAB]..\\u[dD][c-fC-F]..|(\\u[dD][89a-fA-F]..)")
@@ -50,6 +49,9 @@ def why(data: bytes, notation: handref.Notation, hand: Optional[int] = None) -> 
         text = data.decode()
     except UnicodeDecodeError as fault:
         return _not_utf8(data, fault)
+    site = site_texts.site_of(data[:1 << 16])
+    if site:
+        return None, [f"This is {site_texts.said(*site)}."]
     other = _other(text, notation)
     if notation == "phh":
         found = _of_toml(text.removeprefix("\ufeff"))

@@ -14,6 +14,8 @@ from typing import Iterator, Optional
 
 import handref
 
+_CAPITALS = re.compile(r"\b[A-Z]+\b|(?<=\bp)N\b")  # what stands for something in a form
+
 SECTIONS = {"phh": "Poker Hand History", "ohh": "Open Hand History",
             "ohh-to": "Open Hand History", "acpc": "Logs"}
 _HERE = os.path.dirname(os.path.abspath(__file__))
@@ -98,9 +100,23 @@ def explained(error: handref.HandrefError, notation: Optional[str] = None) -> st
         general = _first([part for part in parts() if part.status == 7])
         return f"{general.text if general else ''} Here: {said.text}."
     if error.reason == "Text":
-        return "Text: " + said.text.partition(" The line names no place")[0]
+        return "Text: " + said.text.partition(" handref explain FILE")[0]
+    text = filled(said, re.sub("^(refused: |file: )?(hand [0-9]+: )?", "", error.line))
     if said.names and error.reason and error.status in (1, 3, 4, 10, 14):
-        return f"{error.reason}: {said.text}"
+        return text[:1].upper() + text[1:] if error.reason == "stated" else \
+            f"{error.reason}: {text}"
+    return text
+
+
+def filled(said: Said, line: str) -> str:
+    """A part of the document with the numbers and names of a line in place of its capital letters,
+    as X in `pots stated X, replayed Y`."""
+    for name in said.names:
+        words = _CAPITALS.findall(name)
+        found = re.fullmatch("(.+?)".join(map(re.escape, _CAPITALS.split(name))), line)
+        if found and words:
+            values = dict(zip(words, found.groups()))
+            return _CAPITALS.sub(lambda word: values.get(word[0], word[0]), said.text)
     return said.text
 
 
@@ -112,7 +128,7 @@ def said_of(status: int, line: str, notation: Optional[str] = None) -> Optional[
     reason = error.reason or ""
     if status == 7:
         reason = line.rpartition(" ")[0]
-    elif status in (13, 14) or status == 70:
+    elif status in (13, 14, 70) or reason == "stated":
         return _by_form(own, line) or _first(own)
     found = [part for part in own if any(_is_of(reason, name) for name in part.names)]
     section = SECTIONS.get(notation or "", "")
@@ -150,7 +166,7 @@ def _is_of(reason: str, name: str) -> bool:
 def _by_form(own: list[Said], line: str) -> Optional[Said]:
     """The part one of whose forms, as `no such hand: H of N`, the line has: capital letters there
     stand for anything, and so do two points."""
-    said = re.sub(r"^(handref|differs): (hand \d+: )?", "", line)
+    said = re.sub(r"^(handref|differs|refused): (hand \d+: )?", "", line)
     for part in own:
         for name in part.names:
             form = re.escape(re.sub(r"^differs: ", "", name)).replace(r"\.\.", ".*")

@@ -6,12 +6,13 @@ import stat
 import sys
 import tempfile
 import zlib
+from collections import Counter
 from dataclasses import dataclass, field, replace
 from functools import cached_property
 from typing import IO, BinaryIO, Callable, Iterator, Optional, Sequence, Union
 
 import handref
-from handref import Notation, Piece, faults, formats, outputs, phhs, texts
+from handref import Notation, Piece, faults, formats, outputs, phhs, site_texts, texts
 
 # PIECE bytes of a log have fewer hands and moves than an input may have, whatever they are: a hand
 # takes 17 bytes or more, a move one. A hand of OHH or PHH that has a move takes far more.
@@ -85,12 +86,13 @@ def natural(text: str) -> list[tuple[int, int, str]]:
             for part in re.split(r"([0-9]+)", text) if part]
 
 
-def sources(paths: Sequence[str], notation: Optional[Notation] = None) -> tuple[list[Source], int]:
+def sources(paths: Sequence[str],
+            notation: Optional[Notation] = None) -> tuple[list[Source], Counter[str]]:
     """The files among paths and in folders, in the order of their names; and how many files of
-    folders are none of hands. A path `-` is the standard input. ValueError: a path is no file of
-    hands."""
+    folders are left out, by what they are. A path `-` is the standard input. ValueError: a path is
+    not a file of hands."""
     found: list[Source] = []
-    others = 0
+    others: Counter[str] = Counter()
     for path in paths:
         if path == "-":
             found.append(_standard_input(notation))
@@ -99,7 +101,7 @@ def sources(paths: Sequence[str], notation: Optional[Notation] = None) -> tuple[
         else:
             inside, left = _inside(path, notation)
             found += inside
-            others += left
+            others.update(left)
     return found, others
 
 
@@ -136,15 +138,17 @@ def _named(path: str, notation: Optional[Notation]) -> Source:
     except (OSError, ValueError) as why:
         return _faulty(path, own or "phh", os.path.basename(path), _why(why))
     if own is None:
-        raise ValueError(f"{texts.shown(path)}: neither its name nor its first bytes say a "
-                         "notation; --from says which it is")
+        site = site_texts.site_in(path)
+        raise ValueError(f"{texts.shown(path)}: " + (
+            site_texts.said(*site) if site else "neither its name nor its first bytes say a "
+            "notation; --from says which it is"))
     return _found(path, own, info, os.path.basename(path))
 
 
-def _inside(top: str, notation: Optional[Notation]) -> tuple[list[Source], int]:
-    """The files of hands in a folder, and how many others there are."""
+def _inside(top: str, notation: Optional[Notation]) -> tuple[list[Source], Counter[str]]:
+    """The files of hands in a folder, and how many others there are, by what they are."""
     found: list[Source] = []
-    others = 0
+    others: Counter[str] = Counter()
 
     def fault(why: OSError) -> None:
         name = str(why.filename or top)
@@ -152,7 +156,7 @@ def _inside(top: str, notation: Optional[Notation]) -> tuple[list[Source], int]:
 
     for path in below(top, fault):
         if _UNFINISHED.search(path):
-            others += 1
+            others["left by a call that was ended"] += 1
             continue
         own = formats.notation_of(path)
         try:
@@ -165,7 +169,8 @@ def _inside(top: str, notation: Optional[Notation]) -> tuple[list[Source], int]:
                 found.append(_faulty(path, own, os.path.relpath(path, top), _why(why)))
                 continue
         if own is None:
-            others += 1
+            site = site_texts.site_in(path)
+            others[site_texts.said(*site) if site else "not hands"] += 1
             continue
         if notation and own[:3] == notation[:3]:
             own = notation  # --from says which dialect the files of OHH are in

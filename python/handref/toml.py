@@ -13,6 +13,8 @@ from dataclasses import dataclass
 from decimal import Decimal, InvalidOperation
 from typing import Any, Callable, NoReturn, Optional, Union
 
+MOST_DEEP = 80  # lists and inline tables in one another; parts of a key; parts of a header
+
 Step = Union[str, int]
 Key = tuple[Step, ...]  # the keys and the items, from 0, that lead to a value
 
@@ -46,7 +48,7 @@ _SIGNS = {"b": "\b", "t": "\t", "n": "\n", "f": "\f", "r": "\r", "e": "\x1b", '"
 
 class TomlError(ValueError):
     """A text that is no TOML: what is wrong, at which sign, and of which kind it is: `twice`,
-    `backslash`, `cut` (the text ends too early) or `form`. `first` is where a doubled key is."""
+    `backslash`, `cut` (the text ends too early), `deep` or `form`. `key` is what is doubled."""
 
     def __init__(self, what: str, at: int, kind: str = "form", key: Key = ()) -> None:
         super().__init__(what)
@@ -63,37 +65,30 @@ class Place:
 
 def read(text: str) -> dict[str, Any]:
     """What a document says. TomlError: it is not a document."""
-    return _read(_Reader(text, None))
+    return _Reader(text, None).document()
 
 
 def places(text: str, top: Optional[str] = None) -> dict[Key, Place]:
     """The places of the values of a document, or of its table `top`. TomlError: not one."""
     found: dict[Key, Place] = {}
-    _read(_Reader(text, lambda key: top is None or key[0] == top, found))
+    _Reader(text, lambda key: top is None or key[0] == top, found).document()
     return found
 
 
 def read_with_places(text: str) -> tuple[dict[str, Any], dict[Key, Place]]:
     """What a document says, and the places of its values. TomlError: it is not a document."""
     found: dict[Key, Place] = {}
-    return _read(_Reader(text, lambda key: True, found)), found
+    return _Reader(text, lambda key: True, found).document(), found
 
 
 def places_before(text: str) -> dict[Key, Place]:
     """The places of the values before what is wrong in a text."""
     found: dict[Key, Place] = {}
     try:
-        _read(_Reader(text, lambda key: True, found))
+        _Reader(text, lambda key: True, found).document()
     except TomlError:
         pass
     return found
-
-
-def _read(reader: "_Reader") -> dict[str, Any]:
-    try:
-        return reader.document()
-    except RecursionError as why:
-        raise TomlError("lists or tables are too deep in one another", reader.at) from why
 
 
 class _Reader:
@@ -106,6 +101,7 @@ class _Reader:
         self.root: dict[str, Any] = {}
         self.table = self.root
         self.path: Key = ()
+        self.deep = 0  # lists and inline tables that are open
         # How a table came about: by a header, on the way to one, by dots, or between braces.
         self.kinds: dict[int, str] = {id(self.root): "header"}
         self.listed: set[int] = set()  # lists that are made by [[headers]]
@@ -239,6 +235,8 @@ class _Reader:
             else:
                 self.fail("a key is expected here")
             self.skip(_BLANK)
+            if len(found) > MOST_DEEP:
+                self.fail(f"a key has more than {MOST_DEEP} parts", kind="deep")
             if not self.take("."):
                 return found
 
@@ -248,11 +246,8 @@ class _Reader:
         sign = self.text[self.at:self.at + 1]
         if sign in ('"', "'") and sign:
             return self.string()
-        if sign == "[":
-            short = None if self.is_wanted else self.short_list()
-            return self.items(path) if short is None else short
-        if sign == "{":
-            return self.braces(path)
+        if sign in ("[", "{"):
+            return self.nested(sign, path)
         word = _WORD.match(self.text, self.at)
         if not word:
             self.fail("a value is expected here")
@@ -260,6 +255,18 @@ class _Reader:
         if found is None:
             self.fail(f"{word[0][:40]} is no value of TOML: a text needs quotes")
         self.at = word.end()
+        return found
+
+    def nested(self, sign: str, path: Key) -> Any:
+        """A list or an inline table."""
+        self.deep += 1
+        if self.deep > MOST_DEEP:
+            self.fail(f"lists and inline tables are more than {MOST_DEEP} deep in one another",
+                      kind="deep")
+        short = self.short_list() if sign == "[" and not self.is_wanted else None
+        found: Any = short if short is not None else \
+            self.items(path) if sign == "[" else self.braces(path)
+        self.deep -= 1
         return found
 
     def items(self, path: Key) -> list[Any]:
@@ -337,9 +344,9 @@ class _Reader:
                 found.append(quote * (min(count, 5) - 3 if count > 2 else count))
                 if count > 2:
                     return "".join(found)
-            elif re.compile(r"\r?\n").match(self.text, self.at):
+            elif line_end := re.compile(r"\r?\n").match(self.text, self.at):
                 self.skip(_LINE_END)
-                found.append("\n")
+                found.append(line_end[0])  # as it is
             elif quote == '"' and _FOLD.match(self.text, self.at):
                 self.skip(_FOLD)
             else:

@@ -159,13 +159,70 @@ class Commands(Case):
 
     def test_explain_is_not_done(self):
         for status, line, words in (
-                (5, "No such file or directory", ("none.phh",)),
-                (5, "Is a directory", ("--from", "phh", self.folder)),
-                (2, "no notation has this name", ("none.txt",)),
-                (2, "this is no line of the program: what\\u{1b}?",
-                 (EXAMPLES / "folds.phh", "what\x1b?"))):
+                (5, "no such file or directory", ("none.phh",)),
+                (5, "no such file or directory", ("none.txt",)),
+                (2, "a log needs its game file", (EXAMPLES / "match.acpc",)),
+                (2, "--game goes with logs", ("--game", MATCH, EXAMPLES / "folds.phh")),
+                (2, "a line is explained of one file",
+                 (EXAMPLES / "folds.phh", EXAMPLES / "limit.phh", "limit: hands 65536"))):
             with self.subTest(line=line):
                 self.refused(status, line, "explain", *words)
+        self.refused(2, "site.txt: the text of a hand history of Winamax, which handref import",
+                     "explain", self.text("site.txt", "Winamax Poker - CashGame - HandId: #1"))
+        self.refused(2, "other.txt: neither its name nor its first bytes say a notation",
+                     "explain", self.text("other.txt", "mine"))
+
+    def text(self, name, text):
+        """A file of the folder."""
+        path = self.folder / name
+        path.parent.mkdir(exist_ok=True)
+        path.write_text(text)
+        return path
+
+    def test_explain_of_several(self):
+        """Files and folders: each with something wrong, and how many there are of what."""
+        for name in ("folds.phh", "small_raise.phh", "match.acpc"):
+            self.text(f"hands/{name}", (EXAMPLES / name).read_text())
+        raised = self.text("hands/raise2.phh", (EXAMPLES / "small_raise.phh").read_text())
+        self.text("hands/empty.phh", "")
+        for name, text in (("ps", "PokerStars Hand #247:  Hold'em No Limit ($0.25/$0.50 USD)"),
+                           ("gg", "Poker Hand #RC123: Hold'em No Limit  ($0.5/$1)"),
+                           ("tilt", "Full Tilt Poker Game #123: Table A"), ("mine", "mine")):
+            self.text(f"hands/{name}.txt", text)
+        done = self.call("explain", self.folder / "hands", EXAMPLES / "limit.phh")
+        self.assertEqual((done.returncode, done.stderr), (0, ""))
+        heads = [line for line in done.stdout.split("\n") if line.startswith(str(self.folder))]
+        self.assertEqual([line.removeprefix(f"{self.folder}/hands/") for line in heads], [
+            "empty.phh: no hands", "match.acpc: a log needs its game file: --game GAME",
+            "raise2.phh:10:3: refused: hand 1: event 4, action 4: RaiseTooSmall",
+            "small_raise.phh:10:3: refused: hand 1: event 4, action 4: RaiseTooSmall"])
+        self.assertEqual(done.stdout.count("the raise is below the smallest legal raise"), 1)
+        self.assertEqual(done.stdout.split("\n")[-6:], [
+            "6 files: 4 with something wrong, 2 without", "1 file: not hands",
+            "1 file: the text of a hand history of Full Tilt, which handref does not read",
+            "1 file: the text of a hand history of GGPoker, which handref import reads",
+            "1 file: the text of a hand history of PokerStars, which handref import reads", ""])
+        done = self.call("explain", raised, "refused: hand 1: event 4, action 4: RaiseTooSmall")
+        self.assertIn("raise2.phh:10:3: refused", done.stdout)
+        done = self.call("explain", "--from", "phh", "-",
+                         input=(EXAMPLES / "small_raise.phh").read_text())
+        self.assertIn("standard input:10:3: refused: hand 1", done.stdout)
+
+    def test_explain_of_long(self):
+        """A long file of PHH, packed as well, is explained at the line of the whole file."""
+        hand = (EXAMPLES / "folds.phh").read_text()
+        text = "".join(f"[{number}]\n{hand}" for number in range(1, 6001)).replace(
+            "cbr 6", "cbr 3", 5991).replace("cbr 3", "cbr 6", 5990)
+        self.assertGreater(len(text), 1 << 20)
+        plain = self.text("long.phhs", text)
+        packed = self.folder / "packed.phhs.gz"
+        packed.write_bytes(gzip.compress(text.encode()))
+        line = 1 + text[:text.index("p3 cbr 3")].count("\n")
+        for path in (plain, packed):
+            for more in ((), ("refused: hand 5991: event 4, action 4: RaiseTooSmall",)):
+                done = self.call("explain", path, *more)
+                self.assertIn(f"{path}:{line}:3: refused: hand 5991: event 4, action 4: RaiseToo",
+                              done.stdout)
 
 
 if __name__ == "__main__":

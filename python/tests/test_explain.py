@@ -1,5 +1,7 @@
 """Tries what explain says of each line of docs/MESSAGES.md, and of texts that do not read."""
+import copy
 import gzip
+import json
 import os
 import re
 import shutil
@@ -10,7 +12,7 @@ from unittest import mock
 from pages import EXAMPLES, HERE, MATCH, Case
 
 import handref
-from handref import explain, explain_text, messages, places, toml
+from handref import explain, explain_text, messages, places, sources, toml
 
 MESSAGES = HERE.parent.parent / "docs" / "MESSAGES.md"
 # Runs the program for an example, and keeps the input; a large one is not run.
@@ -280,7 +282,7 @@ class Plays(Case):
         plain, packed = self.folder / "match.acpc", self.folder / "match.acpc.gz"
         plain.write_bytes(data)
         packed.write_bytes(gzip.compress(data))
-        with mock.patch.object(handref, "MOST_BYTES", 500):
+        with mock.patch.object(handref, "MOST_BYTES", 500), mock.patch.object(sources, "PIECE", 150):
             for path in (plain, packed):
                 for line, place in (
                         ("refused: hand 41: event 3, action 1: RaiseTooSmall", (42, 10)),
@@ -297,7 +299,110 @@ class Plays(Case):
         found = explain.explain(EXAMPLES / "folds.phh", "phh", None,
                                 "refused: hand 9: event 1, action 1: WrongSeat")
         self.assertIn("The hand was not found in the file.", found.facts)
-        self.assertIn("there is no hand in it", str(explain.explain(b"", "phh")))
+        self.assertIn("no hands\nThe file is empty", str(explain.explain(b"", "phh")))
+
+
+class Sentences(Case):
+    """What is said is true, and names what is meant."""
+
+    def test_values(self):
+        """Numbers that are out of range, values of another type, and words of actions."""
+        more = ("min_bet = 2\n", "min_bet = 2\nyear = 2024\nmonth = 13\nday = 5\n")
+        for change, wanted in (
+                (more, "month is 13: above 12, the most that it may be."),
+                (("[100, 100, 100]", "[100, -100, 100]"),
+                 "starting_stacks 2 is -100: below 1, the least that it may be."),
+                (("[0, 0, 0]", "[0, -1, 0]"), "antes 2 is -1: below 0, the least"),
+                (("min_bet = 2", "min_bet = 1000000000001"), "above 1000000000000, the most"),
+                (("min_bet = 2", 'min_bet = "2"'),
+                 "min_bet is a text: 2, and has to be a whole number."),
+                (("min_bet = 2", "min_bet = 2\nplayers = 3"),
+                 "players is a whole number: 3, and has to be a list."),
+                (("AhKh", "AhXx"), "Xx is not a card. A card is one of 23456789TJQKA and one of "),
+                (("AhKh", "AhK?"), "K? is a card of which only a part is known"),
+                (("p3 cbr 6", "p3 raise 6"), "raise is not a word of PHH. Write: p3 cbr 6"),
+                (("p1 f", "p1 fold"), "fold is not a word of PHH. Write: p1 f"),
+                (("p1 f", "p4 f"), "There is no p4: the hand has 3 players."),
+                (("p1 f", "p1 sm -"), "Write p1 sm: it says that p1 mucks."),
+                (("p3 cbr 6", "p3 cbr"), "The amount is missing after cbr"),
+                (("100, 100, 100", "100.50, 100, 100"),
+                 "starting_stacks 1 is 100.50, and amounts are whole chips.")):
+            with self.subTest(wanted=wanted):
+                data = self.words("folds.phh", change)
+                with self.assertRaises(handref.HandrefError) as refused:
+                    handref.check(data, "phh")
+                self.assertEqual(refused.exception.status, 3)
+                self.assertIn(wanted, " ".join(explain.explain(data, "phh").facts))
+
+    def test_stated(self):
+        """What is stated of which player, with the numbers of the line."""
+        for name, notation, game, change, wanted in (
+                ("all_in.phh", "phh", None, ("572100, 1997500", "572101, 1997500"),
+                 "Finishing_stacks says that p1 ends with 572101 chips, and the replay comes to "
+                 "572100."),
+                ("raise_adds.ohh", "ohh", None, ('"win_amount":200', '"win_amount":199'),
+                 "The wins of p2 in pots come to 199 chips, and those of the replay to 200."),
+                ("raise_adds.ohh", "ohh", None,
+                 ('"amount":200,"number"', '"amount":201,"number"'),
+                 "The amounts of pots, with their rakes, come to 201 chips"),
+                ("match.value.acpc", "acpc", MATCH, ("", ""),
+                 "The log says that p2 has won 99 chips")):
+            found = explain.explain(self.words(name, change), notation, game)
+            self.assertIn(wanted, found.meaning)
+            self.assertNotRegex(str(found), "WHICH|pN")
+
+    def test_text(self):
+        """How to divide two objects, with the name of the file; and what is nested too deep."""
+        hand = self.words("raise_adds.ohh").strip()
+        two = self.folder / "two hands.ohh"
+        two.write_bytes(hand + b"\n" + hand + b"\n")
+        found = explain.explain(two, "ohh")
+        self.assertIn(f"jq -c . '{two}' | sed G > NEW", " ".join(found.facts))
+        done = subprocess.run(["bash", "-c", f"jq -c . '{two}' | sed G"], capture_output=True) \
+            if shutil.which("jq") else None
+        self.assertEqual(len(handref.check(done.stdout, "ohh")) if done else 2, 2)
+        for text in ("_x = " + "[" * 81 + "]" * 81, "_x" + ".a" * 80 + " = 1",
+                     "_x = " + "{a=" * 81 + "1" + "}" * 81, "[_x" + ".a" * 80 + "]"):
+            data = self.words("folds.phh") + text.encode()
+            found = explain.explain(data, "phh")
+            self.assertEqual(found.line, "bad input: Text")
+            self.assertIn("more than 80", " ".join(found.facts))
+            self.assertEqual(found.spot.line, data.count(b"\n") + 1)
+            less = data.replace(b"[" * 81, b"[" * 80).replace(b"]" * 81, b"]" * 80).replace(
+                b".a" * 80, b".a" * 79).replace(b"{a=" * 81, b"{a=" * 80).replace(
+                b"}" * 81, b"}" * 80)
+            self.assertEqual(len(handref.check(less, "phh")), 1)
+
+    def test_line_ends(self):
+        """A line end inside a text of several lines of TOML is a part of the note."""
+        data = self.words("folds.phh") + b'venue = """one\ntwo"""\n'
+        notes = [toml.read(handref.convert(each, "phh", "phh").decode())["venue"]
+                 for each in (data, data.replace(b"\n", b"\r\n"))]
+        self.assertEqual(notes, ["one\ntwo", "one\r\ntwo"])
+
+    def test_import(self):
+        """What `handref import` mends is said with its rule, and it does."""
+        ohh = json.loads(self.words("raise_adds.ohh"))
+        null, empty, late = (copy.deepcopy(ohh) for _ in range(3))
+        null["ohh"]["table_name"] = None
+        empty["ohh"]["dealer_seat"] = 9
+        late["ohh"]["players"].append({"id": 77, "seat": 9, "name": "Zoe", "starting_stack": 500})
+        half = b"STATE:0:r300f:9s8h|KdTc:-100.5|100.5:A|B\n"
+        for data, notation, rule in (
+                (self.words("folds.phh", ("100, 100, 100", "100.50, 100, 100")), "phh", "unit"),
+                (self.words("all_in.phh", ("p1 sm Ac2d", "p1 sm -")), "phh", "muck-dash"),
+                (b"[" + json.dumps(ohh).encode() + b"]", "ohh", "documents"),
+                (2 * (json.dumps(ohh).encode() + b"\n"), "ohh", "documents"),
+                (b"\xef\xbb\xbf" + json.dumps(ohh).encode(), "ohh", "documents"),
+                (json.dumps(null).encode(), "ohh", "nulls"),
+                (json.dumps(empty).encode(), "ohh", "dead-button"),
+                (json.dumps(late).encode(), "ohh", "not-dealt-in"),
+                (half, "acpc", "unit"),
+                (b"MATCHSTATE:0:0:r300f:9s8h|\n", "acpc", "dealer-output")):
+            with self.subTest(rule=rule, data=data[:40]):
+                found = explain.explain(data, notation, MATCH if notation == "acpc" else None)
+                self.assertIn(f"handref import --out tidy FILE mends it (rule {rule}: ",
+                              " ".join(found.facts))
 
 
 class Places(Case):

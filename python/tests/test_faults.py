@@ -87,7 +87,7 @@ class OneFile(Case):
         lines = text.split("\n")
         self.assertRegex(lines[0], r"^\./b\.phh: a bug of handref [0-9.]+: KeyError \(\w+\.py, line \d+\)$")
         self.assertEqual((status, lines[1:3], told), (70, ["legal hands: 2 of 2", "legal files: 2 of 3"], ""))
-        for words, patch in ((("explain", "a.phh"), "explain.explain"), (("page", "a.phh", "o.html"), "page.page_of")):
+        for words, patch in ((("explain", "a.phh"), "explain.of_file"), (("page", "a.phh", "o.html"), "page.page_of")):
             module = patch.partition(".")[0]
             status, text, told = self.call(*words, first=f"from handref import {module}\n{patch} = lambda *all: {{}}[1]")
             self.assertRegex(told, r"^a\.phh: a bug of handref [0-9.]+: KeyError \(.*\)\n$")

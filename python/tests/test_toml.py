@@ -115,8 +115,25 @@ class Toml(Case):
         self.assertEqual((str(found["t"]), found["s"], found["x"]), ("12:30:00", "\x1bA", {"a": 1}))
 
     def test_deep(self):
-        with self.assertRaisesRegex(toml.TomlError, "too deep"):
-            toml.read("a = " + "[" * 100_000)
+        """80 lists and inline tables may be in one another, as for the program; so may 80 parts of
+        a key, and of a header."""
+        for text in (lambda deep: "a = " + "[" * deep + "]" * deep,
+                     lambda deep: "a = " + "{b.c = " * deep + "1" + "}" * deep,
+                     lambda deep: "a = " + "[{b=" * (deep // 2) + "1" + "}]" * (deep // 2) + (
+                         "" if deep < 81 else "\nb = " + "[" * deep + "]" * deep),
+                     lambda deep: "a" + ".b" * (deep - 1) + " = 1",
+                     lambda deep: "[a" + ".b" * (deep - 1) + "]"):
+            toml.read(text(80))
+            for deep in (81, 3000):
+                with self.assertRaises(toml.TomlError) as found:
+                    toml.read(text(deep))
+                self.assertEqual(found.exception.kind, "deep")
+
+    def test_line_ends(self):
+        """Inside a text of several lines they stay as they are."""
+        for end in ("\n", "\r\n"):
+            self.assertEqual(toml.read(f'a = """{end}b{end}c"""{end}'), {"a": f"b{end}c"})
+            self.assertEqual(toml.read(f"a = '''b{end}c'''{end}"), {"a": f"b{end}c"})
 
 
 if __name__ == "__main__":
