@@ -9,17 +9,18 @@ docs/MESSAGES.md.
 import os
 import sys
 import tempfile
-from collections import deque
+from collections import Counter, deque
 from concurrent.futures import Future, ThreadPoolExecutor
 from dataclasses import dataclass, replace
-from typing import Deque, Iterator, Optional, Sequence, Union
+from itertools import islice
+from typing import IO, Deque, Iterator, Optional, Sequence, Union
 
 import handref
 from handref import Game, HandrefError, Hands, Notation, Piece, faults, phhs, places
 from handref.explanation import (Explanation, is_printed, of, of_line, of_piece, printed,
                                  status_of)
 from handref.progress import Progress
-from handref.sources import Region, Source, regions, sources
+from handref.sources import NO_GAME, Region, Source, regions, sources, with_games
 from handref.texts import counted, shown
 
 __all__ = ["Explanation", "each", "explain", "is_printed", "of_file", "of_line", "printed"]
@@ -46,17 +47,17 @@ def each(found: Sequence[Source], game: Game = None,
          bar: Optional[Progress] = None) -> Iterator[Explanation]:
     """What is wrong first with each file, and how many of its hands are legal where nothing is."""
     for source in found:
-        yield of_file(source, game if source.notation == "acpc" else None, None, bar)
+        yield of_file(source, game or source.game or None, None, bar)
 
 
 def of_file(source: Source, game: Game = None, line: Optional[str] = None,
             bar: Optional[Progress] = None) -> Explanation:
     """The same of a file, or what a line means that was printed about it."""
     name = source.name or source.path
-    if source.fault:
-        return Explanation(5, source.fault, name)
-    if source.notation == "acpc" and game is None:
-        return Explanation(2, "a log needs its game file: --game GAME", name)
+    game = game if source.notation == "acpc" else None
+    fault = source.fault or (NO_GAME if source.notation == "acpc" and not game else "")
+    if fault:
+        return Explanation(9 if fault == NO_GAME else 5, fault, name)
     if line is not None:
         return _line_about(source, game, line)
     file = _File(source, name, game)
@@ -154,10 +155,23 @@ class _File:
 
 def one_hand(path: str, hand: int) -> Piece:
     """A hand of a long file of PHH, with the lines that are before it."""
-    with phhs.open_hands(path) as hands:
-        start, end = hands.span(hand - 1)
-        return Piece(bytes(hands.data[start:end]), "phh", 1, hand - 1,
-                     phhs.lines(hands.data, start))
+    with phhs.plain_file(path) as file:
+        block = next(islice(phhs.tables(file), hand - 1, None))
+        return Piece(block, "phh", 1, hand - 1, _lines_before(file, block))
+
+
+def _lines_before(file: IO[bytes], block: bytes) -> int:
+    """How many lines of a file are before some bytes of it."""
+    file.seek(0)
+    kept, lines = b"", 0
+    while more := file.read(1 << 22):
+        kept += more
+        at = kept.find(block)
+        if at >= 0:
+            return lines + kept.count(b"\n", 0, at)
+        cut = max(0, len(kept) - len(block))
+        lines, kept = lines + kept.count(b"\n", 0, cut), kept[cut:]
+    return lines
 
 
 def _line_about(source: Source, game: Game, line: str) -> Explanation:
@@ -201,36 +215,46 @@ def _with_hand(source: Source, hand: Optional[int], line: Optional[int]) -> Opti
 
 def run(paths: Sequence[str], notation: Optional[Notation], game: Game,
         line: Optional[str] = None) -> None:
-    """Explains files and folders, or a line about a file, on standard output. ValueError: a path is
-    not a file of hands, or a line is about one file. OSError: the only file cannot be read."""
-    found, others = sources(paths, notation)
-    if line is not None and len(found) != 1:
+    """Explains files and folders, or a line about a file, on standard output. ValueError: as
+    `found`, or a line is about one file. OSError: the only file cannot be read."""
+    listed, others = found(paths, notation, game)
+    if line is not None and len(listed) != 1:
         raise ValueError("a line is explained of one file")
-    if len(found) == 1 and not others:
-        if found[0].fault:
-            raise OSError(0, found[0].fault, found[0].path)
-        if (found[0].notation == "acpc") != (game is not None):
-            raise ValueError(f"{found[0].path}: " + (
-                "a log needs its game file: --game GAME" if game is None else
-                f"--game goes with logs, and this is read as {found[0].notation}"))
-    bar = Progress(sum(source.size for source in found), sys.stderr)
+    bar = Progress(sum(source.size for source in listed), sys.stderr)
     wrong, meanings = 0, set()  # what a reason means is said once
-    for source in found:
-        of_log = game if source.notation == "acpc" else None
+    for source in listed:
         try:
-            explained = of_file(source, of_log, line, bar)
+            explained = of_file(source, game or source.game or None, line, bar)
         except (OSError, ArithmeticError, LookupError, TypeError, ValueError) as fault:
-            if len(found) == 1 or isinstance(fault, ValueError) and line is not None:
+            if len(listed) == 1:
                 raise
             explained = _not_explained(source, fault)
         bar.clear()
         wrong += bool(explained.line)
         explained.meaning = "" if explained.meaning in meanings else explained.meaning
         meanings.add(explained.meaning)
-        if len(found) == 1 or explained.line:
-            print(explained, end="\n\n" if len(found) > 1 else "\n", flush=True)
-    if len(found) > 1 or others:
-        print(f"{counted(len(found), 'file')}: {wrong} with something wrong, {len(found) - wrong} "
-              "without")
+        if len(listed) == 1 or explained.line:
+            print(explained, end="\n\n" if len(listed) > 1 else "\n", flush=True)
+    if len(listed) > 1 or others:
+        print(f"{counted(len(listed), 'file')}: {wrong} with something wrong, "
+              f"{len(listed) - wrong} without")
     for why, count in sorted(others.items()):
         print(f"{counted(count, 'file')}: {shown(why)}")
+
+
+def found(paths: Sequence[str], notation: Optional[Notation],
+          game: Game) -> tuple[list[Source], Counter[str]]:
+    """The files of paths and folders, with the game files that are beside logs, which are said; and
+    how many other files are in folders, by what they are. ValueError: a path is not a file of
+    hands, the only file is a log without a game file, or is not one and has a game file. OSError:
+    the only file cannot be read."""
+    listed, others = sources(paths, notation)
+    is_alone = len(listed) == 1 and not others
+    if is_alone and listed[0].fault:
+        raise OSError(0, listed[0].fault, listed[0].path)
+    if is_alone and game is not None and listed[0].notation != "acpc":
+        raise ValueError(f"{listed[0].path}: --game goes with logs, and this is read as "
+                         f"{listed[0].notation}")
+    if game is None:
+        listed = with_games(listed, lambda text: print(text, file=sys.stderr), not is_alone)
+    return listed, others

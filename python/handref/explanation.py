@@ -1,5 +1,5 @@
-"""What is known of a line of the program and of the place that it is about: what is there, what would
-have been legal, what to do.
+"""What is known of a line of the program and of the place that it is about: what is there, what
+would have been legal, what to do.
 
     explanation.of_line("refused: hand 1: event 4, action 4: RaiseTooSmall").meaning
 """

@@ -19,7 +19,9 @@ from handref.page_chart import session_part
 from handref.page_played import Hand, Page
 from handref.event_words import Part, in_words
 
-MARK = '<meta name="generator" content="handref page">'  # a page that may be written over
+# Who has made a page: a sum of all its bytes, with zeros in place of the sum itself.
+MARK = '<meta name="generator" content="handref page, sha256 %s">'
+_NO_SUM = "0" * 64
 MOST_LISTED = 100  # hands that are there without JavaScript, event by event
 _BLOCK = 256  # hands that are packed together
 
@@ -46,12 +48,20 @@ def document(made: Page, title: str) -> str:
         "<!DOCTYPE html>", '<html lang="en">', "<head>", '<meta charset="utf-8">',
         '<meta http-equiv="Content-Security-Policy" content="default-src \'none\'; base-uri '
         f"'none'; form-action 'none'; style-src {_hash(css)}; script-src {_hash(js)}\">",
-        MARK, '<meta name="viewport" content="width=device-width, initial-scale=1">',
+        MARK % _NO_SUM, '<meta name="viewport" content="width=device-width, initial-scale=1">',
         f"<title>{_text(title)}</title>", f"<style>{css}</style>", "</head>", "<body>",
         f"<header><h1>{_text(title)}</h1>", _summary(made), "</header>", "<main>",
         _VIEWER.replace("{file}", where), _listed(made), session_part(made), "</main>",
         *_data(made), f"<script>{js}</script>", "</body>", "</html>", ""]
-    return "\n".join(part for part in parts if part)
+    text = "\n".join(part for part in parts if part)
+    return text.replace(MARK % _NO_SUM, MARK % hashlib.sha256(text.encode()).hexdigest(), 1)
+
+
+def is_page(text: bytes) -> bool:
+    """Whether these are the bytes of a page as it was made here, and nobody has changed them."""
+    found = re.search((MARK % "([0-9a-f]{64})").encode(), text)
+    bare = text.replace(found[1], _NO_SUM.encode(), 1) if found else b""
+    return bool(found) and hashlib.sha256(bare).hexdigest().encode() == found[1]
 
 
 def _text(text: str) -> str:

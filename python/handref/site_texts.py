@@ -4,27 +4,27 @@ import re
 import zlib
 from typing import BinaryIO, Optional, Union
 
-from handref.importing.sites import HEADER
-
-# Sites whose texts `handref import` does not read, by the first lines of a hand.
-_OTHERS = (
-    ("888poker", re.compile(rb"^\*{3,} ?888poker (?:Hand History|Snap Poker)|^#Game No : ", re.M)),
-    ("PartyPoker", re.compile(rb"^\*{3,} Hand History [Ff]or Game ", re.M)),
-    ("Full Tilt", re.compile(rb"^Full Tilt Poker (?:Game|\.\w+ Game) #", re.M)),
-    ("OnGame", re.compile(rb"^\*{3,} History for hand ", re.M)),
-    ("Absolute Poker", re.compile(rb"^Stage #[A-Z0-9-]+", re.M)),
-    ("Ignition", re.compile(rb"^(?:Ignition|Bovada|Bodog)[^\n]{0,20} Hand #", re.M)),
-    ("the Winning Poker Network", re.compile(rb"^Game Hand #\d|^Hand #\d+(?:-\d+)? - ", re.M)),
-    ("iPoker", re.compile(rb"<session sessioncode=")))
+# The first lines of a hand, and whether `handref import` reads such texts.
+_SITES = tuple((name, is_read, re.compile(b"^(?:\xef\xbb\xbf)?" + begin, re.M)) for
+               name, is_read, begin in (
+    ("PokerStars", True, rb"PokerStars [^\n#]*(?:Hand|Game) #"),
+    ("GGPoker", True, rb"Poker Hand #"),
+    ("Winamax", True, rb"Winamax Poker - "),
+    ("888poker", False, rb"(?:\*{3,} ?888poker |#Game No : )"),
+    ("PartyPoker", False, rb"\*{3,} Hand History [Ff]or Game "),
+    ("Full Tilt", False, rb"Full Tilt Poker [^\n#]*#"),
+    ("OnGame", False, rb"\*{3,} History for hand "),
+    ("Absolute Poker", False, rb"Stage #[A-Z0-9-]+"),
+    ("Ignition", False, rb"(?:Ignition|Bovada|Bodog)[^\n]{0,20} Hand #"),
+    ("the Winning Poker Network", False, rb"(?:Game Hand #\d|Hand #\d+(?:-\d+)? - )"),
+    ("iPoker", False, rb"[^\n]{0,200}<session sessioncode=")))
 
 
 def site_of(front: bytes) -> Optional[tuple[str, bool]]:
     """The site that has written a text, by its first bytes, and whether `handref import` reads it;
     None if none is known."""
-    found = HEADER.search(front)
-    if found:
-        return str(found.lastgroup), True
-    return next(((name, False) for name, pattern in _OTHERS if pattern.search(front)), None)
+    return next(((name, is_read) for name, is_read, pattern in _SITES if pattern.search(front)),
+                None)
 
 
 def site_in(path: str) -> Optional[tuple[str, bool]]:

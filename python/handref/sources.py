@@ -241,6 +241,24 @@ def game_beside(source: Source) -> str:
     return os.path.join(folder, found[0]) if len(found) == 1 else ""
 
 
+def with_games(found: Sequence[Source], note: Callable[[str], None],
+               keep_going: bool = True) -> list[Source]:
+    """The logs with the game files that are beside them, which are said. A log without one is a
+    problem of its own where the others are still of use. ValueError: they are not."""
+    logs = [source for source in found if source.notation == "acpc" and not source.fault]
+    games = {source: game_beside(source) for source in logs}
+    without = next((source for source in logs if not games[source]), None)
+    if without and not keep_going:
+        raise ValueError(f"{without.shown}: {NO_GAME}")
+    for game, count in Counter(games.values()).items():
+        first = next(source for source in logs if games[source] == game)
+        others = f" and of {texts.counted(count - 1, 'other log')}" if count > 1 else ""
+        if game:
+            note(f"{texts.shown(game)}: taken as the game file of {first.shown}{others}")
+    return [replace(source, game=games[source], fault="" if games[source] else NO_GAME)
+            if source in games else source for source in found]
+
+
 # Pieces.
 
 def regions(source: Source) -> Iterator[Region]:

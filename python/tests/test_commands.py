@@ -47,11 +47,11 @@ class Commands(Case):
                 (5, "Is a directory", (hand, self.folder / "a.html")),
                 (5, "hand.txt: no such file or directory", (self.folder / "hand.txt", out)),
                 (2, "hand.phh: the name of a page ends in .html", (other, hand)),
-                (2, "this file is there, and is no page of handref; --force", (hand, foreign)),
+                (2, "there is such a file, and handref has not made it; --force", (hand, foreign)),
                 (2, "standard input: --from says which notation it is", ("-", out)),
                 (2, "--hand is a list of hands", ("--hand", "3,x", hand, out)),
                 (2, "there is no hand 2", ("--hand", "2", hand, out)),
-                (2, "a log needs its game file", ("--from", "acpc", hand, out)),
+                (2, "a log needs a game file", ("--from", "acpc", hand, out)),
                 (2, "--game goes with logs", ("--game", MATCH, hand, out)),
                 (3, "other.phh: bad input: Text (handref explain says where)", (other, out)),
                 (9, "game missing", ("--from", "acpc", "--game", "no.game", hand, out))):
@@ -84,7 +84,7 @@ class Commands(Case):
         self.assertEqual([hand["n"] for hand in shown], list(range(1, 9)))
         self.assertEqual(shown[3]["d"], [2, 3])
         said = "".join(Parsed(out.read_text()).said)
-        for line in ("match.acpc: a log needs its game file: --game GAME", "empty.phh: no hands",
+        for line in ("match.acpc: a log needs a game file: --game", "empty.phh: no hands",
                      "1 file of folders: not hands"):
             self.assertIn(line, said)
         self.assertEqual(self.call("page", "--hand", "2,7", hands, out).returncode, 0)
@@ -94,6 +94,14 @@ class Commands(Case):
                          input=(EXAMPLES / "folds.phh").read_text())
         self.assertEqual((done.returncode, done.stderr), (0, ""))
         self.assertIn("1 hand of <bdi>standard input</bdi>", out.read_text())
+        self.assertEqual(self.call("page", EXAMPLES / "folds.phh", out).returncode, 0)
+        out.write_text(out.read_text().replace("3 hands", "4 hands").replace("folds", "my hands"))
+        self.refused(2, "handref has not made it", "page", EXAMPLES / "folds.phh", out)
+        log = self.text("logs/a.acpc", (EXAMPLES / "match.acpc").read_text())
+        self.text("logs/b.game", MATCH.read_text())
+        done = self.call("page", log, self.folder / "log.html")
+        self.assertEqual((done.returncode, done.stderr), (
+            0, f"{log.parent}/b.game: taken as the game file of {log}\n"))
         foreign = self.folder / "notes.html"
         foreign.write_text("mine")
         done = self.call("page", "--force", EXAMPLES / "folds.phh", foreign)
@@ -161,7 +169,7 @@ class Commands(Case):
         for status, line, words in (
                 (5, "no such file or directory", ("none.phh",)),
                 (5, "no such file or directory", ("none.txt",)),
-                (2, "a log needs its game file", (EXAMPLES / "match.acpc",)),
+                (2, "a log needs a game file", (self.text("a.log", "STATE:0:f:|:0|0:A|B"),)),
                 (2, "--game goes with logs", ("--game", MATCH, EXAMPLES / "folds.phh")),
                 (2, "a line is explained of one file",
                  (EXAMPLES / "folds.phh", EXAMPLES / "limit.phh", "limit: hands 65536"))):
@@ -193,7 +201,8 @@ class Commands(Case):
         self.assertEqual((done.returncode, done.stderr), (0, ""))
         heads = [line for line in done.stdout.split("\n") if line.startswith(str(self.folder))]
         self.assertEqual([line.removeprefix(f"{self.folder}/hands/") for line in heads], [
-            "empty.phh: no hands", "match.acpc: a log needs its game file: --game GAME",
+            "empty.phh: no hands",
+            "match.acpc: a log needs a game file: --game, or a .game file beside it",
             "raise2.phh:10:3: refused: hand 1: event 4, action 4: RaiseTooSmall",
             "small_raise.phh:10:3: refused: hand 1: event 4, action 4: RaiseTooSmall"])
         self.assertEqual(done.stdout.count("the raise is below the smallest legal raise"), 1)

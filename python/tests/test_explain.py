@@ -12,7 +12,8 @@ from unittest import mock
 from pages import EXAMPLES, HERE, MATCH, Case
 
 import handref
-from handref import explain, explain_text, messages, places, sources, toml
+from handref import explain, explain_text, messages, places, site_texts, sources, toml
+from handref.importing import sites
 
 MESSAGES = HERE.parent.parent / "docs" / "MESSAGES.md"
 # Runs the program for an example, and keeps the input; a large one is not run.
@@ -379,6 +380,17 @@ class Sentences(Case):
         notes = [toml.read(handref.convert(each, "phh", "phh").decode())["venue"]
                  for each in (data, data.replace(b"\n", b"\r\n"))]
         self.assertEqual(notes, ["one\ntwo", "one\r\ntwo"])
+
+    def test_sites(self):
+        """What `handref import` reads is named as that."""
+        for begin, site in sites.SITES.items():
+            front = begin.strip() + b" - " if b"Winamax" in begin else begin.strip() + b" #12"
+            found = site_texts.site_of(front.replace(b"PokerStars #", b"PokerStars Hand #"))
+            self.assertEqual(found, (site.name, True))
+        self.assertIsNone(site_texts.site_of(self.words("folds.phh")))
+        found = explain.explain(b"PokerStars Hand #247839012345:  Hold'em No Limit\n", "phh")
+        self.assertIn("This is the text of a hand history of PokerStars, which handref import "
+                      "reads.", found.facts)
 
     def test_import(self):
         """What `handref import` mends is said with its rule, and it does."""
