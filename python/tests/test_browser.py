@@ -89,6 +89,7 @@ class Browser(Case):
 
     def made(self, hands, notation, game=None, **more):
         out = self.folder / "page.html"
+        out.unlink(missing_ok=True)  # a test has changed it
         page.page_file(hands, notation, out, game, **more)
         return out
 
