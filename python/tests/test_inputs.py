@@ -97,6 +97,15 @@ class Inputs(unittest.TestCase):
         with self.assertRaisesRegex(ValueError, "has to be said"):
             handref.check(b"")
 
+    def test_no_program(self):
+        """Where the program is not there, the line says how it gets there."""
+        with mock.patch.dict(os.environ, HANDREF_PROGRAM="no/such/program"):
+            with self.assertRaises(handref.NoProgram) as caught:
+                handref.check(self.evening)
+        for word in ("no/such/program", "HANDREF_PROGRAM", "./handref --install"):
+            self.assertIn(word, str(caught.exception))
+        self.assertNotIn("\n", str(caught.exception))
+
     def test_streams(self):
         """Rows of 24 MB come one by one: no more than a few pieces are in memory."""
         hand = handref.convert(EXAMPLES / "folds.phh", "phh", "phh").decode()
