@@ -8,6 +8,8 @@ from handref import HandrefError, places
 from handref.importing import rules
 from handref.places import Spot
 
+# What the program says of files that an import mends, without a look at them.
+MENDED = ("AmountNotWhole", "BadPlayer", "BadPost", "BadValue")
 # What people have, by the words of the fact about a text that does not read.
 _TEXTS = (("an empty line has to divide two hands", "documents"),
           ("byte order mark", "documents"))

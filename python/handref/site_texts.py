@@ -19,6 +19,8 @@ _SITES = tuple((name, is_read, re.compile(b"^(?:\xef\xbb\xbf)?" + begin, re.M)) 
     ("the Winning Poker Network", False, rb"(?:Game Hand #\d|Hand #\d+(?:-\d+)? - )"),
     ("iPoker", False, rb"[^\n]{0,200}<session sessioncode=")))
 
+HEAD = re.compile(b"|".join(pattern.pattern for _, _, pattern in _SITES), re.M)
+
 
 def site_of(front: bytes) -> Optional[tuple[str, bool]]:
     """The site that has written a text, by its first bytes, and whether `handref import` reads it;

@@ -17,6 +17,7 @@ import handref  # noqa: E402
 from handref import formats, toml  # noqa: E402
 from handref.importing import amounts, rules  # noqa: E402
 
+IS_QUICK = False
 WILD, MADE = HERE / "wild", HERE / "wild-made"
 EXAMPLES = HERE.parent.parent / "examples"
 FOLDS = (EXAMPLES / "folds.phh").read_text()
@@ -240,6 +241,18 @@ class Promise(Case):
         self.assertEqual(len([name for name in os.listdir(self.out) if name.startswith("a.")]), 2)
 
 
+class Mended(Case):
+    def other(self, *words):
+        done = subprocess.run([sys.executable, "-m", "handref", *map(str, words)], capture_output=True,
+                              env={**os.environ, "PYTHONPATH": str(HERE.parent)})
+        return " ".join((done.stdout + done.stderr).decode().split())
+
+    def test_check(self):
+        said = self.other("many", "check", WILD / "antonius-blom.phh", WILD / "dead-small-blind.ohh")
+        self.assertIn("handref import may mend: AmountNotWhole, BadPost", said)
+        self.assertNotIn("may mend", self.other("many", "check", EXAMPLES / "small_raise.phh"))
+
+
 class Restore(Case):
     def many(self, *words):
         done = subprocess.run([sys.executable, "-m", "handref", "many", "convert", *map(str, words)],
@@ -310,7 +323,7 @@ class Amounts(Case):
         self.assertEqual(self.table(text)["finishing_stacks"][2], 10188)
 
     def test_nothing_is_rounded(self):
-        for amount in ("0.0000000005", "1.00000000000000000000000000000000001", "1e999999",
+        for amount in ("0.0000000005", "1.00000000000000000000000000000000001",
                        "1e-999999", "20000000000000.01"):
             path = self.put("a.phh", CASH.replace("min_bet = 0.02", f"min_bet = {amount}"))
             done = user("--check", path)

@@ -3,7 +3,7 @@ import re
 from typing import Optional, Sequence
 
 import handref
-from handref import Game, HandrefError, Notation, Piece, Replay, phhs, single_hands, toml
+from handref import Game, HandrefError, Notation, Piece, Replay, single_hands, toml
 
 _HEADER = re.compile(r"\A[^\n]*\n")
 _OTHER_TABLE = re.compile(r"^[ \t]*\[", re.M)
@@ -41,11 +41,6 @@ def replays(hands: Sequence[bytes], notation: Notation, game: Game = None) -> li
     return found
 
 
-def has_end(replay: Replay) -> bool:
-    """Whether a replay goes to the end of its hand, whatever the hand states."""
-    return bool(replay.finish)
-
-
 def cause_of(refused: HandrefError) -> Optional[tuple[str, str]]:
     """The cause, and what is said of it, of a hand that handref does not judge: it does not read,
     or it stops early. None if it is refused."""
@@ -55,8 +50,3 @@ def cause_of(refused: HandrefError) -> Optional[tuple[str, str]]:
         return None
     line = re.sub(r"\b(?:hand|line) \d+(?:, byte \d+)?(?:, |: )", "", refused.line)
     return f"{refused.reason or 'not read'}", line
-
-
-def numbered(block: bytes, place: int) -> bytes:
-    """A hand with the number that it had by its place in a file of which some hands are left out."""
-    return phhs.numbered(block, place)

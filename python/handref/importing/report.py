@@ -5,7 +5,7 @@ from typing import Callable, Optional
 
 from handref import HandrefError, texts
 from handref.importing import rules
-from handref.importing.record import Hand, Written
+from handref.importing.record import Hand
 
 SHOWN = 3  # changes of one rule in one file, each with a line of its own
 

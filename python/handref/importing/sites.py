@@ -3,7 +3,7 @@ import mmap
 import re
 from typing import Iterator, Optional, Union
 
-from handref import HandrefError, single_hands
+from handref import HandrefError, single_hands, site_texts
 from handref.importing import amounts, judging, rakes, text
 from handref.importing.finishing import settle
 from handref.importing.pokerstars import GGPOKER, POKERSTARS
@@ -12,9 +12,6 @@ from handref.importing.rules import Rules
 from handref.importing.winamax import WINAMAX
 
 SITES = {b"PokerStars ": POKERSTARS, b"Poker Hand ": GGPOKER, b"Winamax Poker": WINAMAX}
-# A byte order mark may be before the first hand, and before each hand of files put together.
-HEADER = re.compile(rb"^(?:\xef\xbb\xbf)?(?:PokerStars [^\n#]*(?:Hand|Game) #|Poker Hand #"
-                    rb"|Winamax Poker - )", re.M)
 _SPACE = re.compile(rb"(?:\s|\xef\xbb\xbf)*\Z")
 
 
@@ -22,7 +19,7 @@ def blocks(data: "Union[bytes, mmap.mmap]") -> Iterator[tuple[int, int, int]]:
     """The hands of a text: each from its first line up to that of the next one. What comes before
     the first one, and is not empty, is a hand that cannot be read."""
     start, number = 0, 0
-    for found in HEADER.finditer(data):
+    for found in site_texts.HEAD.finditer(data):
         if start < found.start() and not (number == 0 and _SPACE.match(data[:found.start()])):
             number += 1
             yield number, start, found.start()
@@ -41,7 +38,10 @@ def read(hand: Hand, data: bytes, rules: Rules) -> None:
     """Reads a hand, and notes what its amounts need."""
     site = site_of(data)
     if site is None or not rules.has("text"):
-        raise LeftOut("a text of a site" if site else "a text before the first hand")
+        other = site_texts.site_of(data)
+        hand.site = other[0] if other else ""
+        raise LeftOut("a text that is not read" if hand.site else "a text before the first hand",
+                      hand.site)
     hand.site = site.name
     try:
         lines = data.decode("utf-8-sig").split("\n")

@@ -9,8 +9,7 @@ import zlib
 from dataclasses import dataclass
 from typing import BinaryIO, Optional, Sequence, Union
 
-from handref import HandrefError, phhs, sources, texts
-from handref.importing.sites import HEADER
+from handref import HandrefError, phhs, site_texts, sources, texts
 
 KINDS = {"phh": "PHH", "ohh": "OHH", "ohh-to": "OHH", "log": "log", "text": "text", "game": "game"}
 _ENDS = {".phh": "phh", ".phhs": "phh", ".ohh": "ohh", ".ohh-to": "ohh-to", ".acpc": "log",
@@ -19,7 +18,7 @@ _OHH = re.compile(rb"\s*[\[{]\s*(?:\{\s*)?\"ohh\"\s*:")
 _LOG = re.compile(rb"^(?:STATE:[0-9]|(?:TO|FROM) [0-9]+ at [0-9.]+ MATCHSTATE:|MATCHSTATE:[0-9])", re.M)
 _GAME = re.compile(rb"\s*(?:#[^\n]*\s+)*GAMEDEF", re.I)
 _HAND_ENDS = {"phh": phhs.NUMBER, "ohh": re.compile(rb"\"ohh\""), "ohh-to": re.compile(rb"\"ohh\""),
-              "log": re.compile(rb"\n[^\n]*STATE:"), "text": HEADER, "game": re.compile(rb"GAMEDEF")}
+              "log": re.compile(rb"\n[^\n]*STATE:"), "text": site_texts.HEAD, "game": re.compile(rb"GAMEDEF")}
 _PHH = re.compile(rb"(?:\A|\n)[ \t]*variant[ \t]*=[ \t]*[\"']")
 
 
@@ -51,7 +50,7 @@ class Wild:
 def kind_of(path: str, front: bytes) -> str:
     """The kind of a file by its first bytes, else by the end of its name; "" if there is none."""
     front = front.removeprefix(b"\xef\xbb\xbf")
-    if HEADER.search(front):
+    if site_texts.HEAD.search(front):
         return "text"
     by_name = _ENDS.get(os.path.splitext(re.sub(r"\.gz\Z", "", path))[1].lower(), "")
     for pattern, kind in ((_GAME, "game"), (_OHH, "ohh"), (_LOG, "log")):
