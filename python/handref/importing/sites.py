@@ -20,6 +20,8 @@ def blocks(data: "Union[bytes, mmap.mmap]") -> Iterator[tuple[int, int, int]]:
     the first one, and is not empty, is a hand that cannot be read."""
     start, number = 0, 0
     for found in site_texts.HEAD.finditer(data):
+        if data[start:start + 8] == b"#Game No" and data[start:found.start()].count(b"\n") == 1:
+            continue  # two first lines of one hand
         if start < found.start() and not (number == 0 and _SPACE.match(data[:found.start()])):
             number += 1
             yield number, start, found.start()
