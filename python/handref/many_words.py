@@ -20,7 +20,7 @@ TASKS = {
     "duplicates": "finds hands that are there more than once, in whatever notations and files",
 }
 ALONE = ("duplicates",)  # tasks that are commands of their own too
-ON = ("check", "duplicates")  # tasks that go on after a problem without being told
+ON = ("check", "duplicates")  # tasks that go on after a problem by themselves
 
 
 def add(commands: "Any") -> None:
