@@ -90,7 +90,15 @@ run_in_pipe() {
 
 # Runs a program whose output is a terminal. Names can have control characters, which the terminal
 # would obey.
+# shellcheck disable=SC2154 # the scripts that read this file set package
 run_at_terminal() {
+    case $2 in
+    report | session) # a line end in a name would look like the end of a row
+        [ -d /dev/stdin ] || [ ! -f "$package/handref/terminal.py" ] ||
+            ! command -v python3 >/dev/null || set -- \
+            env PYTHONDONTWRITEBYTECODE=1 python3 -c "$start" "$package" handref.terminal "$@"
+        ;;
+    esac
     find_spare
     eval "exec $spare>&1"
     terminal=$spare
@@ -164,19 +172,21 @@ print_by() {
     exit 6
 }
 
-# Runs the Python package in a folder with a program. The folder of the call is not searched for
+# Runs a module of the Python package in a folder. The folder of the call is not searched for
 # modules, since a stranger's files may lie there.
-run_python() {
-    command -v python3 >/dev/null || {
-        echo "handref: $3 runs on Python, and python3 is not on the path" >&2
-        exit 70
-    }
-    HANDREF_PROGRAM=${HANDREF_PROGRAM-$2} PYTHONDONTWRITEBYTECODE=1
-    export HANDREF_PROGRAM PYTHONDONTWRITEBYTECODE
-    package=$1
-    shift 2
-    exec python3 -c 'import sys
+start='import sys
 sys.path[0] = sys.argv.pop(1)
 import runpy
-runpy.run_module("handref", alter_sys=True, run_name="__main__")' "$package" "$@"
+runpy.run_module(sys.argv.pop(1), alter_sys=True, run_name="__main__")'
+
+# Runs the commands in Python with a program.
+run_python() {
+    command -v python3 >/dev/null || {
+        echo "handref: $2 runs on Python, and python3 is not on the path" >&2
+        exit 70
+    }
+    HANDREF_PROGRAM=${HANDREF_PROGRAM-$1} PYTHONDONTWRITEBYTECODE=1
+    export HANDREF_PROGRAM PYTHONDONTWRITEBYTECODE
+    shift
+    exec python3 -c "$start" "$package" handref "$@"
 }

@@ -8,6 +8,7 @@ import shlex
 import shutil
 import signal
 import subprocess
+import sys
 import tempfile
 import time
 import unittest
@@ -178,6 +179,57 @@ class OfTheCaller(Case):
                 done = subprocess.run(["bash", "-c", line], capture_output=True, cwd=self.folder, env=self.env, timeout=60,
                                       stdin=subprocess.DEVNULL)
                 self.assertEqual(done.stdout.strip(), b"game missing", line)
+
+
+class Terminals(Case):
+    NAMED = HAND.decode() + 'players = ["x\\n                9000       1  Mallory", "\\u001b[31mB", """C\n\ny"""]\n'
+
+    def at_terminal(self, line, **env):
+        done = subprocess.run(["script", "-qec", line, "/dev/null"], stdin=subprocess.DEVNULL, capture_output=True,
+                              cwd=self.folder, env={**self.env, **env}, timeout=300)
+        return done.returncode, done.stdout.decode().replace("\r\n", "\n")
+
+    def test_names(self):
+        """At a terminal a line end in a name is shown as \\n, so that no name is a row."""
+        (self.folder / "named.phh").write_text(self.NAMED)
+        with open(self.folder / "named.ohh", "wb") as output:
+            subprocess.run([PROGRAM, "convert", "--from", "phh", "--to", "ohh", "--drop-notes"], input=self.NAMED.encode(),
+                           stdout=output, check=True)
+        (self.folder / "handref").symlink_to(self.top / "handref")
+        self.assertEqual(self.call("--install", self.folder / "prefix")[0], 0)
+        names = [r"x\n                9000       1  Mallory", r"\x1b[31mB", r"C\n\ny"]
+        for command in ("prefix/bin/handref", "./handref"):
+            for words in ("report --from phh < named.phh", "report --from=ohh < named.ohh", "report --from phh named.phh"):
+                status, text = self.at_terminal(f"{command} {words}")
+                rows = text.split("\n")[2:-1]
+                self.assertEqual((status, [row[30:] for row in rows]), (0, names), text)
+                self.assertEqual([row[:30].split() for row in rows], [["-1", "1"], ["-2", "1"], ["3", "1"]])
+        status, text = self.at_terminal("./handref session --from phh < named.phh")
+        self.assertEqual([row[122:] for row in text.split("\n") if row.startswith(" ")], names)
+        self.assertEqual(text.split("\n")[:3], [f"hand 1 join {name} 100" for name in names])
+        for words in ("--from phh < .", "--from phh <&-", "--from ohh < named.phh", "--from"):
+            plain = subprocess.run(["sh", "-c", f"./handref report {words} 2>&1"], capture_output=True, cwd=self.folder,
+                                   env=self.env)
+            status, text = self.at_terminal(f"./handref report {words}")
+            self.assertEqual((status, text.split("\n")[0]), (plain.returncode, plain.stdout.decode().split("\n")[0]), words)
+
+    def test_modules_of_a_stranger(self):
+        """The folder of a call is not searched for modules."""
+        (self.folder / "hand.phh").write_bytes(HAND)
+        for name in ("json", "gzip", "argparse", "sqlite3", "handref", "runpy", "re", "signal", "decimal", "encodings"):
+            (self.folder / f"{name}.py").write_text("open('ran', 'w').close()\n")
+        self.assertEqual(self.call("--install", self.folder / "prefix")[0], 0)
+        calls = [[self.top / "handref"], [self.folder / "prefix" / "bin" / "handref"]]
+        env = {**self.env, "HANDREF_PROGRAM": PROGRAM}
+        if sys.version_info >= (3, 11):
+            calls.append([sys.executable, "-P", "-m", "handref"])
+            env["PYTHONPATH"] = str(self.top / "python")
+        for front in calls:
+            for words in (["many", "check", "hand.phh"], ["many", "check", "--resume", "hand.phh"], ["explain", "hand.phh"]):
+                done = subprocess.run([*front, *words], capture_output=True, cwd=self.folder, env=env)
+                self.assertEqual((done.returncode, (self.folder / "ran").exists()), (0, False), done.stderr)
+        self.at_terminal(f"{shlex.quote(str(self.top / 'handref'))} report --from phh hand.phh")
+        self.assertFalse((self.folder / "ran").exists())
 
 
 class Left(Case):
