@@ -2,6 +2,7 @@
 somebody else's. What comes out is compared with what the program says of the same hands in one call."""
 import json
 import os
+import random
 import shutil
 import signal
 import sqlite3
@@ -128,6 +129,21 @@ class Resume(Case):
         left = [path.name for path in self.hands.rglob("*") if path.is_file() and path.suffix != ".phh"]
         self.assertGreater(len(left), 4)
         self.assertEqual(self.call("check", "."), (0, "legal hands: 8 of 8\nlegal files: 8 of 8\n", ""))
+
+    def test_killed_at_any_moment(self):
+        """Whenever a call is killed, the same call ends with each hand once."""
+        self.some()
+        chosen = random.Random(89)
+        for _ in range(4):
+            for path in (self.hands, self.folder):
+                for left in path.glob("all.ohh"):
+                    left.unlink()
+            for _ in range(chosen.randrange(1, 3)):
+                self.ended(signal.SIGKILL, *self.TO, after=chosen.randrange(1, 5))
+            self.assertEqual(self.call(*self.TO)[::2], (0, ""))
+            text = (self.folder / "all.ohh").read_bytes()
+            self.assertEqual([f'"game_number":"{number}"'.encode() in text for number in range(8)], [True] * 8)
+            self.assertEqual(text.count(b'{"ohh"'), 8)
 
     def test_while_a_file_is_written(self):
         """The front of a file that was being written is not taken for hands either."""

@@ -17,6 +17,7 @@ from pathlib import Path
 HERE = Path(__file__).resolve().parent
 TOP = HERE.parents[1]
 EXAMPLES = next(path for path in (TOP / "tests" / "examples", TOP / "examples") if path.exists())
+IS_QUICK = False
 PROGRAM = shutil.which(os.environ.get("HANDREF_PROGRAM") or "handref")
 HAND = (EXAMPLES / "folds.phh").read_bytes()
 LEGAL = b"hand 1: 99 98 103\nlegal hands: 1\n"
