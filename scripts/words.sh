@@ -79,8 +79,8 @@ An option can also be written --name=VALUE. Give each option once.
 
 Hands are read from standard input, or from a file that is the last word: handref check --from phh FILE. The answer goes
 to standard output, and one line on standard error reports a fault. -h and help answer as --help.
-The output of report and session is for people: a name with a line end looks like a row. For programs there is --json
-of handref many.
+The output of report and session is for people: a name with a line end looks like a row. For programs there are --csv
+and --json of handref many.
 
 Status  0 done               1 a hand is refused      2 wrong command line   3 the input cannot be read as hands
         4 cannot be written  5 reading failed         6 writing failed       7 a limit is exceeded
