@@ -2,7 +2,7 @@
 from dataclasses import dataclass
 from typing import Optional, Sequence
 
-from handref import Replay
+from handref import Pot, Replay
 
 
 @dataclass
@@ -33,11 +33,11 @@ def of_pots(replay: Replay, won: Sequence[int]) -> Optional[list[int]]:
     return found if all(0 <= rake for rake in found) and sum(found) == missing else None
 
 
-def _from_the_first(pots: Sequence[object], missing: int) -> list[int]:
+def _from_the_first(pots: Sequence[Pot], missing: int) -> list[int]:
     """One player has won all pots, so it does not matter from which the rake is taken."""
     found = []
     for pot in pots:
-        found.append(min(missing, pot.chips))  # type: ignore[attr-defined]
+        found.append(min(missing, pot.chips))
         missing -= found[-1]
     return found
 
