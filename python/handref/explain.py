@@ -221,7 +221,8 @@ def run(paths: Sequence[str], notation: Optional[Notation], game: Game,
     if line is not None and len(listed) != 1:
         raise ValueError("a line is explained of one file")
     bar = Progress(sum(source.size for source in listed), sys.stderr)
-    wrong, meanings = 0, set()  # what a reason means is said once
+    wrong = 0
+    meanings: set[str] = set()  # what a reason means is said once
     for source in listed:
         try:
             explained = of_file(source, game or source.game or None, line, bar)
