@@ -159,6 +159,8 @@ def _inside(top: str, notation: Optional[Notation]) -> tuple[list[Source], Count
             others["left by a call that was ended"] += 1
             continue
         own = formats.notation_of(path)
+        if path.endswith(".game"):
+            continue  # it is no file of hands, and not left out: logs are read with it
         try:
             info = os.stat(path)
             if not stat.S_ISREG(info.st_mode):
