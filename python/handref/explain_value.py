@@ -7,17 +7,18 @@ from typing import Any, Optional
 import handref
 from handref import HandrefError, places
 from handref.formats import GAMES
+from handref.formats import PHH_AMOUNT_LISTS, PHH_AMOUNTS
 from handref.places import Spot
 from handref.texts import counted, shown
 
 AMOUNT, RESULT = 10 ** 12, 10 ** 13
-_ABOVE_ZERO = {"starting_stacks", "starting_stack", "small_bet", "big_bet", "min_bet", "bring_in",
-               "small_blind_amount", "big_blind_amount"}
+_ABOVE_ZERO = {*PHH_AMOUNTS, "starting_stacks", "starting_stack", "small_blind_amount",
+               "big_blind_amount"}
 _RESULTS = {"finishing_stacks", "_rakes", "win_amount", "rake"}
 _RANGES = {"year": (1, 9999), "month": (1, 12), "day": (1, 31), "seats": (1, 255),
            "seat": (1, 255), "seat_count": (1, 255), "table_size": (1, 255)}
-_LISTS = {"starting_stacks", "antes", "blinds_or_straddles", "actions", "finishing_stacks",
-          "_rakes", "players", "seats", "rounds", "pots", "player_wins", "cards"}
+_LISTS = {*PHH_AMOUNT_LISTS, "actions", "players", "seats", "rounds", "pots", "player_wins",
+          "cards"}
 _TEXTS = {"variant", "venue", "currency", "time_zone", "street", "action", "name", "site_name",
           "game_type", "bet_type", "start_date_utc"}
 _OTHERS = {"time": "a local time, as 20:15:00", "ante_trimming_status": "true or false",

@@ -23,6 +23,8 @@ PHH_KEYS: tuple[str, ...] = (
     "day", "time", "time_zone")
 
 PHH_NOTES: tuple[str, ...] = PHH_KEYS[PHH_KEYS.index("players"):]
+PHH_AMOUNTS = ("bring_in", "small_bet", "big_bet", "min_bet")
+PHH_AMOUNT_LISTS = ("starting_stacks", "antes", "blinds_or_straddles", "finishing_stacks", "_rakes")
 
 
 def notation_of(path: str) -> Optional[handref.Notation]:

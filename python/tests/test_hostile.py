@@ -111,7 +111,9 @@ class NamesOfPlayers(Case):
             self.assertIsNone(re.search("[\x00-\x08\x0b-\x1f\x7f-\x9f\u2028\u202e]", text))
             text = self.call("many", task, path)[1].decode()
             self.assertIsNone(re.search("[\x00-\x09\x0b-\x1f\x7f-\x9f\u2028\u202e]", text))
-            self.assertEqual(sum(line.startswith(" ") for line in text.split("\n")), len(NAMES))
+            rows = [line for line in text.split("\n") if line.startswith(" ")]
+            heads = [line for line in rows if line.endswith(("hands  name", "won  name"))]
+            self.assertEqual((len(heads), len(rows)), (1, 1 + len(NAMES)))
 
     def test_escapes(self):
         every = "".join(map(chr, [*range(0x100), 0x2028, 0x202e, 0x1f600])) + "\udcff"

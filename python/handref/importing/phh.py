@@ -12,9 +12,7 @@ from handref.importing import amounts
 from handref.importing.record import Hand, LeftOut
 from handref.importing.rules import Rules
 
-LISTS = ("starting_stacks", "antes", "blinds_or_straddles", "finishing_stacks", "_rakes",
-         "winnings")
-SINGLE = ("bring_in", "small_bet", "big_bet", "min_bet")
+LISTS = (*formats.PHH_AMOUNT_LISTS, "winnings")
 _RAISE = re.compile(rf"(\A *p[0-9]+ +cbr +)({amounts.NUMBER})(?= |#|\Z)")
 _DASH = re.compile(r"(\A *p[0-9]+ +sm) +-(?= *#| *\Z)")
 _CARDS = re.compile(r"\A *(?:d +d([hb])(?: +p[0-9]+)?|p[0-9]+ +s[dm]) +([^ #]+) *(?:#|\Z)")
@@ -111,7 +109,7 @@ def read(hand: Hand, data: bytes, rules: Rules) -> None:
 
 def numbers(table: dict[str, Any]) -> Iterator[tuple[toml.Key, amounts.Amount]]:
     """The amounts of a hand, with their places."""
-    for name in SINGLE:
+    for name in formats.PHH_AMOUNTS:
         if is_number(table.get(name)):
             yield (name,), table[name]
     for name in LISTS:
