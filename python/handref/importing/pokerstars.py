@@ -7,7 +7,7 @@ from handref.importing.amounts import Amount
 from handref.importing.record import LeftOut
 from handref.importing.text import M, SYMBOLS, Reader, Site, named, number
 
-GAMES = {"Hold'em No Limit": "NT", "Hold'em Limit": "FT", "Omaha Pot Limit": "PO",
+GAMES = {"Hold'em No Limit": "NT", "Hold'em Limit": "FT", "Omaha Pot Limit": "PO", "PLO Pot Limit": "PO",
          "Omaha Hi/Lo Limit": "FO/8"}
 _STAKES = (rf"(?P<symbol>[$€£¥₹]?){named('small')}/{named('big')}(?: - Ante {named('ante')})?"
            r"(?: (?P<currency>[A-Z]{3,4}))?")

@@ -176,12 +176,13 @@ IGNORED = [re.compile(pattern) for pattern in (
     r".+ finished the tournament(?: in [0-9]+(?:st|nd|rd|th) place)?(?: and received .+)?\.?",
     r".+ wins the tournament(?: and receives .+)?(?: - congratulations!)?",
     r".+ wins (?:the |a )?.* ?(?:bounty )?for (?:eliminating|splitting the elimination of) .+",
+    rf".+ wins the {M} bounty",
     r".+ re-?buys and receives .+", r".+ takes the add-on and receives .+",
     r".+ receives? .* ticket.*", r".+ wins an entry to tournament .+", r"Betting is capped",
     r"\*{5,} # [0-9]+ \*{5,}")]
 _TOTAL = re.compile(rf"Total pot {M}((?: (?:Main|Side) pot(?:-[0-9]+)? {M}\.)*)((?: ?\| .*)?)")
 _POT = re.compile(rf"(Main|Side) pot(-[0-9]+)? {M}\.")
-_TAKEN = re.compile(rf"(?:Rake|Jackpot|Jackpot Fee|Bingo|Fortune|Tax|Splash|Fee) {M}")
+_TAKEN = re.compile(rf"(?:Rake|Jackpot|Jackpot [Ff]ee|Bingo|Fortune|Tax|Splash|Fee) {M}")
 _PLACES = r"(?: \((?:button|small blind|big blind)\))*"
 _ENDS = [(re.compile(pattern), does) for pattern, does in (
     (r"folded (before Flop|on the Flop|on the Turn|on the River)(?: \(didn't bet\))?", "folded"),
