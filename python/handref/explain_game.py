@@ -28,8 +28,25 @@ def why(data: bytes, number: int, reason: str) -> tuple[Optional[Spot], list[str
     if reason == "GameShape" and not said and "END GAMEDEF" not in lines:
         said = [("The file ends without END GAMEDEF.", 0, len(line))]
     column, length = said[0][1:] if said else (0, len(line))
+    if said or reason == "UnsupportedGame":
+        said += [(text, column, length) for text in _other_game(lines)]
     found = spot(text, start + column, start + column + max(1, length))
     return found, [each[0] for each in said]
+
+
+def _other_game(lines: list[str]) -> list[str]:
+    """Whether the file is of another game than hold'em, as Kuhn or Leduc, or has two players in
+    the other order."""
+    for key, wanted in (("numRounds", 4), ("numSuits", 4), ("numRanks", 13), ("numHoleCards", 2)):
+        line = next((each for each in lines if _key_of(each) == key), "")
+        found = re.search(r"= *(\d+) *\Z", line)
+        if found and int(found[1]) != wanted:
+            return [f"{key} is {found[1]}, and {wanted} in hold'em: handref reads no other game."]
+    first = next((each for each in lines if _key_of(each) == "firstPlayer"), "")
+    if re.search(r"= *1 +2 +2 +2 *\Z", first):
+        return ["firstPlayer is 1 2 2 2: of two players the one with the button is first here, and "
+                "second in what handref reads."]
+    return []
 
 
 Fault = tuple[str, int, int]  # what is said, of which signs of the line

@@ -1,6 +1,8 @@
 """Which rule of `handref import` mends a fault of a file, if one does."""
 import json
+import os
 import re
+import shlex
 from typing import Any, Optional, Sequence
 
 import handref
@@ -15,10 +17,12 @@ _TEXTS = (("an empty line has to divide two hands", "documents"),
           ("byte order mark", "documents"))
 
 
-def sentence(name: str) -> str:
+def sentence(name: str, game: handref.Game = None) -> str:
     """How to mend a file by a rule."""
-    return (f"handref import --out tidy FILE mends it (rule {name}: "
-            f"{rules.by_name(name).sees}).").replace("`", "")
+    words = f"--game {shlex.quote(os.fspath(game))} " if game else ""
+    sees = rules.by_name(name).sees.replace("`", "")
+    return (f"handref import mends it (rule {name}: {sees}):\n"
+            f"  handref import --out tidy {words}FILE")
 
 
 def rule_of(error: HandrefError, notation: handref.Notation, found: Optional[Spot], data: bytes,
@@ -83,4 +87,4 @@ def _of_game(error: HandrefError, facts: Sequence[str]) -> Optional[str]:
     if error.reason == "GameShape" and re.search(
             r"has a tab|begins or ends with a space|is no number|#", said):
         return "game-file"
-    return "seats-exchanged" if error.reason == "UnsupportedGame" else None
+    return "seats-exchanged" if said.startswith("firstPlayer is 1 2 2 2") else None

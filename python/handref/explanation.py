@@ -23,6 +23,7 @@ _START = re.compile(r"(?:\A|: )((?:file: )?(?:refused|usage|bad input|unspelled|
                     r"differs|handref|no such [a-z]+): .*|(?:read fault|write fault|out of memory|"
                     r"game missing|shelf fault|file missing)\Z)")
 _WIDE = 90  # columns that are shown of a line
+_COMMAND = re.compile(r": ((?:7z|bzip2|gzip|iconv|jq|tail|unzip|xz|zstd) .* > NEW)\Z")
 
 
 @dataclass
@@ -47,8 +48,10 @@ class Explanation:
 
 
 def _folded(text: str) -> str:
-    return "\n".join(textwrap.wrap(shown(text), 88, break_long_words=False,
-                                   break_on_hyphens=False))
+    """A text in lines that are not too long; a command stays on one line."""
+    return "\n".join("\n".join([shown(line)] if line.startswith("  ") else textwrap.wrap(
+        shown(line), 88, break_long_words=False, break_on_hyphens=False))
+        for line in text.split("\n"))
 
 
 def _pointed(found: Spot) -> list[str]:
@@ -121,10 +124,11 @@ def of(error: HandrefError, path: str, piece: Piece, game: Game,
                        if not os.path.exists(game) else f"{shown(os.fspath(game))} is there now."]
     rule = explain_import.rule_of(error, notation, found.spot, data, found.facts)
     if rule:
-        found.facts.append(explain_import.sentence(rule))
+        found.facts.append(explain_import.sentence(rule, game))
     if path and path != "standard input":
         named = shlex.quote(path)
         found.facts = [re.sub(r"\bFILE\b", lambda _: named, fact) for fact in found.facts]
+    found.facts = [_COMMAND.sub(r":\n  \1", fact) for fact in found.facts]
     return found
 
 

@@ -221,6 +221,22 @@ class Games(Case):
                 self.assertIn(wanted, " ".join(found.facts))
 
 
+    def test_other_game(self):
+        """Kuhn poker is another game; seats that are exchanged are those of hold'em."""
+        kuhn = "GAMEDEF\nlimit\nnumPlayers = 3\nnumRounds = 1\nblind = 1 1 1\nraiseSize = 1\n" \
+            "firstPlayer = 1\nmaxRaises = 1\nnumSuits = 1\nnumRanks = 4\nnumHoleCards = 1\n" \
+            "numBoardCards = 0\nEND GAMEDEF\n"
+        turned = MATCH.read_text().replace("blind = 100 50", "blind = 50 100").replace(
+            "firstPlayer = 2 1 1 1", "firstPlayer = 1 2 2 2")
+        game = self.folder / "own.game"
+        for text, wanted, other in ((kuhn, "numRounds is 1, and 4 in hold'em", "import"),
+                                    (turned, "(rule seats-exchanged: ", "no other game")):
+            game.write_text(text)
+            said = " ".join(explain.explain(EXAMPLES / "match.acpc", "acpc", game).facts)
+            self.assertIn(wanted, said)
+            self.assertNotIn(other, said)
+
+
 class Plays(Case):
     def facts(self, data, notation, game=None):
         found = explain.explain(data, notation, game)
@@ -283,7 +299,8 @@ class Plays(Case):
         plain, packed = self.folder / "match.acpc", self.folder / "match.acpc.gz"
         plain.write_bytes(data)
         packed.write_bytes(gzip.compress(data))
-        with mock.patch.object(handref, "MOST_BYTES", 500), mock.patch.object(sources, "PIECE", 150):
+        with mock.patch.object(handref, "MOST_BYTES", 500), \
+                mock.patch.object(sources, "PIECE", 150):
             for path in (plain, packed):
                 for line, place in (
                         ("refused: hand 41: event 3, action 1: RaiseTooSmall", (42, 10)),
@@ -413,8 +430,10 @@ class Sentences(Case):
                 (b"MATCHSTATE:0:0:r300f:9s8h|\n", "acpc", "dealer-output")):
             with self.subTest(rule=rule, data=data[:40]):
                 found = explain.explain(data, notation, MATCH if notation == "acpc" else None)
-                self.assertIn(f"handref import --out tidy FILE mends it (rule {rule}: ",
-                              " ".join(found.facts))
+                said = found.facts[-1].split("\n")
+                self.assertTrue(said[0].startswith(f"handref import mends it (rule {rule}: "))
+                words = f"--game {MATCH} " if notation == "acpc" else ""
+                self.assertEqual(said[1], f"  handref import --out tidy {words}FILE")
 
 
 class Places(Case):
