@@ -418,17 +418,24 @@ class Texts(Case):
         self.assertEqual(chips["finishing_stacks"], [18450 - 125, 22075 - 9050 + 18225, 0])
         self.assertNotIn("currency", chips)
 
-    def changed(self, *pairs, name="stars.txt"):
-        text = (WILD / name).read_text()
-        for old, new in pairs:
+    def changed(self, rows):
+        """Texts, each with one thing changed, in one call: of each the cause of the hand that is left
+        out beside the one with a dead blind; all others are legal."""
+        text = (WILD / "stars.txt").read_text()
+        for number, (old, new, _) in enumerate(rows):
             self.assertIn(old, text)
-            text = text.replace(old, new, 1)
-        done = user("--check", self.put(name, text))
-        return done[1]
+            self.put(f"wild/{number}.txt", text.replace(old, new, 1))
+        done = user("--out", self.out, self.folder / "wild")
+        count = len(rows)
+        self.assertIn(f"{4 * count} hands of {count} files: {2 * count} written, {2 * count} left out; "
+                      f"{2 * count} legal, 0 refused", done[1])
+        for number, (_, new, said) in enumerate(rows):
+            with self.subTest(new):
+                self.assertIn(said, (self.out / f"{number}.txt.left-out").read_text())
 
     def test_what_does_not_agree(self):
         """What a text says twice is compared: each of these is left out, with its cause."""
-        for old, new, said in (
+        self.changed((
                 ("raises $0.10 to $0.15", "raises $0.11 to $0.15", "a raise that does not add up"),
                 ("calls $1.85", "calls $1.84", "a call that does not add up"),
                 ("calls $1.45 and is all-in", "calls $1.40 and is all-in", "a call that does not"),
@@ -445,14 +452,10 @@ class Texts(Case):
                 ("B: posts the ante 10", "B: posts the ante 9", "antes of different sizes"),
                 ("Uncalled bet ($0.50)", "Uncalled bet ($0.40)", "pots that are not what was put in"),
                 ("b (big blind) folded on the Flop", "b (big blind) folded before Flop",
-                 "a summary that differs")):
-            with self.subTest(new):
-                lines = self.changed((old, new))
-                self.assertIn("2 left out; 2 legal", lines)
-                self.assertIn(said, lines)
+                 "a summary that differs")))
 
     def test_what_has_no_form(self):
-        for old, new, said in (
+        self.changed((
                 ("*** FLOP *** [2c 7d 9h]", "*** FIRST FLOP *** [2c 7d 9h]", "run several times"),
                 ("y leaves the table", "y cashed out the hand for $1.20 | Cash Out Fee $0.01",
                  "a cash-out"),
@@ -462,18 +465,13 @@ class Texts(Case):
                 ("Hold'em No Limit ($0.02/$0.05)", "Omaha Hi/Lo Pot Limit ($0.02/$0.05)",
                  "a game that handref does not have"),
                 ("Hold'em No Limit ($0.02/$0.05)", "6+ Hold'em No Limit ($0.02/$0.05)",
-                 "a game that handref does not have")):
-            with self.subTest(new):
-                lines = self.changed((old, new))
-                self.assertIn("2 left out", lines)
-                self.assertIn(said, lines)
-        lines = self.changed(("shows [9c 9d] (three", "shows [9c Kc] (three"))
-        self.assertIn("2 left out: ", lines)  # 9c 9d of the summary
+                 "a game that handref does not have"),
+                ("shows [9c 9d] (three", "shows [9c Kc] (three", "cards of a player that differ")))
 
     def test_chat_is_no_move(self):
         """What a player says is never taken for a move, and a cut text is never a whole one."""
-        lines = self.changed(('said, "hello: folds"', 'said, "(x): folds"'))
-        self.assertIn("3 legal", lines)
+        text = (WILD / "stars.txt").read_text().replace('said, "hello: folds"', 'said, "(x): folds"')
+        self.assertIn("3 legal", user("--check", self.put("chat.txt", text))[1])
         text = (WILD / "pokerstars.txt").read_text()
         done = user("--check", self.put("cut.txt", text[:text.index("*** SUMMARY")]))
         self.assertIn("1 left out: 1 a text that has no end", done[1])
