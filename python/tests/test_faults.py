@@ -31,7 +31,7 @@ class Case(unittest.TestCase):
         self.folder = Path(folder.name) / "hands"
         self.folder.mkdir()
         self.env = {"PATH": os.environ["PATH"], "HOME": os.environ.get("HOME", "/"), "LANG": "C.UTF-8",
-                    "HANDREF_PROGRAM": str(PROGRAM)}
+                    "HANDREF_PROGRAM": str(PROGRAM), "XDG_STATE_HOME": str(self.folder.parent / "state")}
 
     def hands(self, *names, text=HAND):
         for name in names:

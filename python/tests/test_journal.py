@@ -128,7 +128,10 @@ class Resume(Case):
             self.ended(signal.SIGKILL, "convert", "-j", "1", "--join", *words, ".")
         left = [path.name for path in self.hands.rglob("*") if path.is_file() and path.suffix != ".phh"]
         self.assertGreater(len(left), 4)
-        self.assertEqual(self.call("check", "."), (0, "legal hands: 8 of 8\nlegal files: 8 of 8\n", ""))
+        status, text, told = self.call("check", ".")
+        self.assertEqual((status, told), (0, ""))
+        self.assertRegex(text, r"\Alegal hands: 8 of 8\nlegal files: 8 of 8\n"
+                               r"left out: \d+ files: left by a call that was ended\n\Z")
 
     def test_killed_at_any_moment(self):
         """Whenever a call is killed, the same call ends with each hand once."""

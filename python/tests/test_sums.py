@@ -312,7 +312,7 @@ class Sources(Case):
             self.assertEqual(sources.notation_in(str(path)), own)
         (self.folder / "notes.txt").write_text("variants of [hands] = 1")
         found, others = sources.sources([str(self.folder)])
-        self.assertEqual((len(found), others), (4, 1))
+        self.assertEqual((len(found), others), (4, {"not hands": 1}))
 
     def test_what_cannot_be_read(self):
         folder = self.folder / "hands"
