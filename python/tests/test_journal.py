@@ -39,7 +39,9 @@ class Case(unittest.TestCase):
         self.hands.mkdir(parents=True)
         (self.folder / "program").write_text(
             f"#!/bin/sh\nprintf x >> '{self.folder.parent}/calls'\n"
-            f"while [ -e '{self.folder.parent}/slow' ]; do sleep 0.05; [ ! -e '{self.folder.parent}/go' ] || break; done\n"
+            f"{{ read -r most < '{self.folder.parent}/most'; }} 2>/dev/null\n"
+            f"while [ -e '{self.folder.parent}/most' ] && [ \"$(wc -c < '{self.folder.parent}/calls')\" -gt \"$most\" ]\n"
+            "do sleep 0.05; done\n"
             f"exec '{PROGRAM}' \"$@\"\n")
         (self.folder / "program").chmod(0o755)
         self.env = {"PATH": os.environ["PATH"], "HOME": os.environ.get("HOME", "/"), "LANG": "C.UTF-8",
@@ -74,18 +76,16 @@ class Case(unittest.TestCase):
 
     def ended(self, sign, *words, after=4, send=os.kill):
         """Runs a call, and ends it by a signal when the program was called a number of times."""
-        slow, before = self.folder.parent / "slow", self.calls()
+        most, before = self.folder.parent / "most", self.calls()
+        most.write_text(f"{before + after}\n")  # what is called after that waits, until the call is ended
         running = subprocess.Popen(self.words(*words), stdout=subprocess.PIPE, stderr=subprocess.PIPE, text=True,
                                    cwd=self.hands, env=self.env, start_new_session=True)
-        while running.poll() is None and self.calls() < before + after:
-            time.sleep(0.005)
-        slow.touch()  # what is called from now on waits, until the call is ended
-        while running.poll() is None and self.calls() < before + after + 1:
+        while running.poll() is None and self.calls() <= before + after:
             time.sleep(0.005)
         send(running.pid, sign)
         if sign != signal.SIGKILL:
             time.sleep(0.2)
-        slow.unlink()
+        most.unlink()
         said = running.communicate(timeout=300)
         return running.returncode, *said
 
