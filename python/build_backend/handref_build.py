@@ -40,8 +40,12 @@ def _metadata(project: Dict[str, str]) -> bytes:
 
 def _files() -> Dict[str, bytes]:
     """The files of the package, and the document whose entries `explain` shows."""
-    found = {f"handref/{name}": _read("handref", name)
-             for name in sorted(os.listdir(os.path.join(HERE, "handref"))) if name.endswith(ENDS)}
+    found: Dict[str, bytes] = {}
+    for folder, folders, names in os.walk(os.path.join(HERE, "handref")):
+        folders.sort()
+        for name in sorted(name for name in names if name.endswith(ENDS)):
+            path = os.path.relpath(os.path.join(folder, name), HERE)
+            found[path.replace(os.sep, "/")] = _read(path)
     for name in ("docs/MESSAGES.md", "LICENSE"):
         own = f"handref/{os.path.basename(name)}"
         if own not in found and os.path.exists(os.path.join(HERE, "..", name)):

@@ -3,7 +3,7 @@ import json
 import os
 import re
 import shlex
-from typing import Any, Optional, Sequence
+from typing import Any, Dict, List, Optional, Sequence
 
 import handref
 from handref import HandrefError, places
@@ -54,12 +54,12 @@ def _of_ohh(error: HandrefError, value: Any, data: bytes) -> Optional[str]:
     hand = _hand(error, data)
     if reason == "BadPlayer" and place == "ohh.dealer_seat":
         return "dead-button"
-    said = [each for part in hand.get("rounds", ()) for each in part.get("actions", ())]
+    said = [each for part in _members(hand.get("rounds")) for each in _members(part.get("actions"))]
     if reason == "BadPost" and not any(each.get("action") == "Post SB" for each in said):
         return "dead-small-blind"
-    active = {each.get("player_id") for each in said}
+    active = [each.get("player_id") for each in said]
     if reason in ("BadPlayer", "BadPost", "WrongSeat", "WrongKind") and any(
-            player.get("id") not in active for player in hand.get("players", ())):
+            player.get("id") not in active for player in _members(hand.get("players"))):
         return "not-dealt-in"
     return None
 
@@ -69,8 +69,13 @@ def _hand(error: HandrefError, data: bytes) -> Any:
         _, block = places.blocks(places.decoded(data))[(error.hand or 1) - 1]
         found = json.loads(block)["ohh"]
         return found if isinstance(found, dict) else {}
-    except (ValueError, LookupError, TypeError):
+    except (ValueError, LookupError, TypeError, RecursionError):
         return {}
+
+
+def _members(value: Any) -> List[Dict[str, Any]]:
+    """The objects of a list of JSON, whatever else is in its place."""
+    return [each for each in value if isinstance(each, dict)] if isinstance(value, list) else []
 
 
 def _of_log(error: HandrefError, found: Optional[Spot]) -> Optional[str]:

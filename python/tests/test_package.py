@@ -59,9 +59,9 @@ class Build(Case):
         with zipfile.ZipFile(self.folder / "a" / names[0]) as wheel:
             inside = set(wheel.namelist())
             self.assertIsNone(wheel.testzip())
-        for path in (PACKAGE / "handref").iterdir():
-            if path.is_file():
-                self.assertIn(f"handref/{path.name}", inside)
+        for path in (PACKAGE / "handref").rglob("*"):
+            if path.is_file() and "__pycache__" not in path.parts:
+                self.assertIn(path.relative_to(PACKAGE).as_posix(), inside)
         self.assertIn("handref/MESSAGES.md", inside)
         self.assertTrue(handref_build.build_sdist(str(self.folder)).endswith(".tar.gz"))
 
