@@ -18,15 +18,15 @@ def spaced(number: int) -> str:
     return f"{number:,}".replace(",", "\u202f").replace("-", "\u2212")
 
 
-def in_words(told: dict[str, Any]) -> Iterator[list[Part]]:
+def in_words(summary: dict[str, Any]) -> Iterator[list[Part]]:
     """What is said of the posts and of each event of a hand, and of its end where it has one."""
-    table = _Table(told)
-    yield _posts(told)
-    for packed in told["e"].split(";") if told["e"] else []:
+    table = _Table(summary)
+    yield _posts(summary)
+    for packed in summary["e"].split(";") if summary["e"] else []:
         text, _, added = packed.partition("+")
         yield table.said(text.split(" "), int(added or 0))
-    if "f" in told:
-        yield _end(told)
+    if "f" in summary:
+        yield _end(summary)
 
 
 def plain(said: Sequence[Part], names: Sequence[str]) -> str:
@@ -37,10 +37,10 @@ def plain(said: Sequence[Part], names: Sequence[str]) -> str:
 class _Table:
     """The chips of a hand, which say whether an amount is a raise or a bet."""
 
-    def __init__(self, told: dict[str, Any]) -> None:
-        self.put = list(told["i"])
-        self.left = [start - put for start, put in zip(told["s"], self.put)]
-        self.earlier = list(told.get("a") or [0] * len(self.put))
+    def __init__(self, summary: dict[str, Any]) -> None:
+        self.put = list(summary["i"])
+        self.left = [start - put for start, put in zip(summary["s"], self.put)]
+        self.earlier = list(summary.get("a") or [0] * len(self.put))
         self.board, self.has_moved = 0, False
 
     def said(self, words: Sequence[str], chips: int) -> list[Part]:
@@ -82,23 +82,23 @@ class _Table:
         return f"{'raises to' if price else 'bets'} {spaced(int(words[2]))}{end}"
 
 
-def _posts(told: dict[str, Any]) -> list[Part]:
+def _posts(summary: dict[str, Any]) -> list[Part]:
     antes = [min(ante, put) for ante, put in
-             zip(told.get("a") or [0] * len(told["i"]), told["i"])]
+             zip(summary.get("a") or [0] * len(summary["i"]), summary["i"])]
     is_each = antes[0] > 0 and len(set(antes)) == 1
     said: list[Part] = [(None, f"ante of {spaced(antes[0])} each")] if is_each else []
-    for seat, (put, ante) in enumerate(zip(told["i"], antes), 1):
+    for seat, (put, ante) in enumerate(zip(summary["i"], antes), 1):
         parts = [spaced(put - ante)] if put > ante else []
         parts += [f"an ante of {spaced(ante)}"] if ante and not is_each else []
         said += [(seat, f" posts {' and '.join(parts)}")] if parts else []
     return _joined(said) or [(None, "nobody posts")]
 
 
-def _end(told: dict[str, Any]) -> list[Part]:
+def _end(summary: dict[str, Any]) -> list[Part]:
     said: list[Part] = [(int(seat), f" gets back {spaced(chips)}")
-                        for seat, chips in told["r"].items()]
-    for number, (_, shares, rake) in enumerate(told["t"], 1):
-        pot = f" of pot {number}" if len(told["t"]) > 1 else ""
+                        for seat, chips in summary["r"].items()]
+    for number, (_, shares, rake) in enumerate(summary["t"], 1):
+        pot = f" of pot {number}" if len(summary["t"]) > 1 else ""
         said += [(int(seat), f" wins {spaced(share)}{pot}") for seat, share in shares.items()]
         said += [(None, f"rake {spaced(rake)}{pot}")] if rake else []
     return _joined(said) or [(None, "the end")]

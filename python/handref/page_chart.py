@@ -137,5 +137,5 @@ def _rows_of(made: Page, lines: dict[str, list[tuple[int, int]]], most: Sequence
                         for head, each in zip(heads[1:], numbers))
         parts.append(f'<tr><td>{swatch}</td><th scope="row"><bdi>{html.escape(shown(name))}</bdi>'
                      f"</th>{cells}</tr>")
-    told = f"<p>{len(rows) - 200} other names are left out.</p>" if len(rows) > 200 else ""
-    return "".join(parts) + f"</tbody></table>{told}"
+    left_out = f"<p>{len(rows) - 200} other names are left out.</p>" if len(rows) > 200 else ""
+    return "".join(parts) + f"</tbody></table>{left_out}"

@@ -74,21 +74,21 @@ def _hash(text: str) -> str:
 
 def _summary(made: Page) -> str:
     count, first = made.legal + made.refused, made.files[0]
-    told = f"<p>{counted(count, 'hand')} of "
-    told += f"<bdi>{_text(first.name)}</bdi>, read as {first.notation}" if len(made.files) == 1 \
+    text = f"<p>{counted(count, 'hand')} of "
+    text += f"<bdi>{_text(first.name)}</bdi>, read as {first.notation}" if len(made.files) == 1 \
         else counted(len(made.files), "file")
-    told += f": {made.legal} legal"
-    told += f', <span class="refused">{made.refused} refused</span>' if made.refused else ""
-    told += f"; of them {len(made.hands)} here" if len(made.hands) < count else ""
-    told += ".</p>"
-    if len([hand for hand in made.hands if "o" in hand.told]) < len(made.hands) - made.refused:
-        told += ('<p class="soft">This page has too many hands for the legal moves and the equity '
+    text += f": {made.legal} legal"
+    text += f', <span class="refused">{made.refused} refused</span>' if made.refused else ""
+    text += f"; of them {len(made.hands)} here" if len(made.hands) < count else ""
+    text += ".</p>"
+    if len([hand for hand in made.hands if "o" in hand.summary]) < len(made.hands) - made.refused:
+        text += ('<p class="soft">This page has too many hands for the legal moves and the equity '
                  "of each: choose hands by --hand.</p>")
     if made.left:
-        told += (f'<p class="refused">{made.left} more hands are not shown: {MOST_UNREAD} hands '
+        text += (f'<p class="refused">{made.left} more hands are not shown: {MOST_UNREAD} hands '
                  "before them in their file do not read.</p>")
     listed = "".join(f"<li>{_text(line)}</li>" for line in made.not_shown)
-    return told + (f"<details><summary>{counted(len(made.not_shown), 'line')} about what is not "
+    return text + (f"<details><summary>{counted(len(made.not_shown), 'line')} about what is not "
                    f"shown</summary><ul>{listed}</ul></details>" if listed else "")
 
 
@@ -140,8 +140,8 @@ def _listed(made: Page) -> str:
 
 
 def _hand_listed(hand: Hand, has_files: bool) -> str:
-    told, refused = hand.told, hand.refused
-    game = GAMES.get(told.get("g", ""), "")
+    summary, refused = hand.summary, hand.refused
+    game = GAMES.get(summary.get("g", ""), "")
     parts = [f"<h3>Hand {hand.number}{': ' + html.escape(game) if game else ''}</h3>"]
     if has_files:
         parts.append(f"<p><bdi>{_text(hand.file.name)}</bdi>, hand {hand.own}</p>")
@@ -149,18 +149,18 @@ def _hand_listed(hand: Hand, has_files: bool) -> str:
                      for seat, name in enumerate(hand.names, 1) if name != f"p{seat}")
     if names:
         parts.append(f"<p>{names}</p>")
-    if told.get("m"):
-        parts.append(f'<p class="soft"><bdi>{html.escape(told["m"])}</bdi></p>')
+    if summary.get("m"):
+        parts.append(f'<p class="soft"><bdi>{html.escape(summary["m"])}</bdi></p>')
     parts += [f'<p><strong class="fact">{_text(fact)}</strong></p>' for fact in hand.facts]
     if refused:
-        if told.get("o") and refused.reason not in ("stated", "rake too big"):
-            due, *moves = max(told["o"].items())[1].split(";")
+        if summary.get("o") and refused.reason not in ("stated", "rake too big"):
+            due, *moves = max(summary["o"].items())[1].split(";")
             parts.append(f"<p>{due_there(due, moves)}</p>")
         parts.append(f'<p class="bad">{_text(_told_of(refused))}</p>')
         parts.append(f'<p class="plain">{_text(messages.meaning(refused, hand.file.notation))}</p>')
         if hand.text and not refused.event:
             parts.append(f"<pre>{_lines_of(hand.text)}</pre>")
-    if told:
+    if summary:
         parts += ['<table class="rows events"><thead><tr><th class="number" scope="col">Event</th>'
                   '<th scope="col"></th><th scope="col">Stacks</th><th scope="col">In</th></tr>'
                   "</thead><tbody>", *_events(hand), "</tbody></table>"]
@@ -169,17 +169,17 @@ def _hand_listed(hand: Hand, has_files: bool) -> str:
 
 def _events(hand: Hand) -> Iterator[str]:
     """The rows of the events of a hand, its end, and what is refused."""
-    said = [_said(words, hand.names) for words in in_words(hand.told)]
-    own = hand.told.get("w")
-    for (event, words, stacks, put), sentence in zip(expanded(hand.told), said):
+    said = [_said(words, hand.names) for words in in_words(hand.summary)]
+    own = hand.summary.get("w")
+    for (event, words, stacks, put), sentence in zip(expanded(hand.summary), said):
         words = words if not own and event else own[event - 1] if own and event else ""
         yield _row(str(event), sentence, words, stacks, put)
     refused = hand.refused
     if refused and refused.event and refused.action is not None:
         yield _row(str(refused.event), f"refused: {_text(_reason(refused))}", hand.text,
                    kind="refused")
-    if "f" in hand.told:
-        yield _row("end", said[-1], "\n".join(ends(hand.told)))
+    if "f" in hand.summary:
+        yield _row("end", said[-1], "\n".join(ends(hand.summary)))
 
 
 def _said(words: Sequence[Part], names: Sequence[str]) -> str:
@@ -198,12 +198,12 @@ def _row(event: str, said: str, own: str, stacks: str = "", put: str = "", kind:
             f'<span class="own">{_lines_of(own)}</span></td>{chips}</tr>')
 
 
-def expanded(told: dict[str, Any]) -> Iterator[tuple[int, str, str, str]]:
+def expanded(summary: dict[str, Any]) -> Iterator[tuple[int, str, str, str]]:
     """The events of a hand as `replay` says them."""
-    put = list(told["i"])
-    left = [start - paid for start, paid in zip(told["s"], put)]
+    put = list(summary["i"])
+    left = [start - paid for start, paid in zip(summary["s"], put)]
     yield 0, "posts", " ".join(map(str, left)), " ".join(map(str, put))
-    for event, packed in enumerate(told["e"].split(";") if told["e"] else [], 1):
+    for event, packed in enumerate(summary["e"].split(";") if summary["e"] else [], 1):
         words, _, added = packed.partition("+")
         if added:
             seat = int(words[1:words.index(" ")]) - 1
@@ -212,16 +212,16 @@ def expanded(told: dict[str, Any]) -> Iterator[tuple[int, str, str, str]]:
         yield event, words, " ".join(map(str, left)), " ".join(map(str, put))
 
 
-def ends(told: dict[str, Any]) -> Iterator[str]:
+def ends(summary: dict[str, Any]) -> Iterator[str]:
     """The last lines of a hand as `replay` says them."""
-    if "f" not in told:
+    if "f" not in summary:
         return
-    yield from (f"return p{seat} {chips}" for seat, chips in told["r"].items())
-    for number, (chips, shares, rake) in enumerate(told["t"], 1):
+    yield from (f"return p{seat} {chips}" for seat, chips in summary["r"].items())
+    for number, (chips, shares, rake) in enumerate(summary["t"], 1):
         entries = [f"p{seat} {share}" for seat, share in shares.items()] + [f"rake {rake}"] * bool(
             rake)
         yield f"pot {number} {chips}: {', '.join(entries)}"
-    yield "finish " + " ".join(map(str, told["f"]))
+    yield "finish " + " ".join(map(str, summary["f"]))
 
 
 def _runs(hands: Sequence[Hand]) -> Iterator[str]:
@@ -242,29 +242,29 @@ def _data(made: Page) -> Iterator[str]:
     """What the script shows: a list of all hands, and the hands in blocks, packed if many."""
     names: dict[str, int] = {}
     index: list[list[Any]] = []
-    told: list[dict[str, Any]] = []
+    summaries: list[dict[str, Any]] = []
     places = {id(file): place for place, file in enumerate(made.files)}
     for hand in made.hands:
         seats = [names.setdefault(name, len(names)) for name in hand.names]
-        pot = sum(chips for chips, _, _ in hand.told["t"]) if "t" in hand.told else None
-        index.append([hand.number, hand.told.get("g", ""),
+        pot = sum(chips for chips, _, _ in hand.summary["t"]) if "t" in hand.summary else None
+        index.append([hand.number, hand.summary.get("g", ""),
                       _reason(hand.refused) if hand.refused else "", seats, pot])
-        row: dict[str, Any] = {"n": hand.number, **hand.told, "p": seats}
+        row: dict[str, Any] = {"n": hand.number, **hand.summary, "p": seats}
         if len(made.files) > 1:
             index[-1].append(places[id(hand.file)])
             row["d"] = [places[id(hand.file)], hand.own]
         if hand.refused:
             row["v"] = _verdict(hand, hand.refused)
-        told.append(row)
+        summaries.append(row)
     listed: list[Any] = []
     for name in names:
         whole = shown(name)
         listed.append(whole if short(whole) == whole else [whole, short(whole)])
-    is_packed = len(told) > _BLOCK
+    is_packed = len(summaries) > _BLOCK
     yield _part('id="index"', {"names": listed, "games": GAMES, "hands": index, "files": [
         shown(file.name) for file in made.files]}, is_packed)
-    for start in range(0, len(told), _BLOCK):
-        yield _part('class="hands"', told[start:start + _BLOCK], is_packed)
+    for start in range(0, len(summaries), _BLOCK):
+        yield _part('class="hands"', summaries[start:start + _BLOCK], is_packed)
 
 
 def _verdict(hand: Hand, refused: HandrefError) -> dict[str, Any]:

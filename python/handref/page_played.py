@@ -35,7 +35,7 @@ class Hand:
     file: File
     place: int = 1  # its number in `data`
     own: int = 0  # its number in its file
-    told: dict[str, Any] = field(default_factory=dict)  # for the script: see page_hand.js
+    summary: dict[str, Any] = field(default_factory=dict)  # for the script: see page_hand.js
     text: str = ""  # the source's words of what is refused
     seat: Optional[int] = None  # that they name
     facts: list[str] = field(default_factory=list)  # what is wrong, in numbers and cards
@@ -91,33 +91,33 @@ def replay(file: File, rows: list[Hand], data: bytes) -> None:
     if len(hands) != len(rows) or len(notes) != len(rows) or not text.endswith("\n"):
         raise UnclearOutput(0, "the output of replay or convert is cut", file=file.name)
     for row, replayed, note in zip(rows, hands, notes):
-        row.told = _told(replayed)
-        if ("f" in row.told) == bool(row.refused and row.refused.reason != "stated"):
+        row.summary = _summary(replayed)
+        if ("f" in row.summary) == bool(row.refused and row.refused.reason != "stated"):
             raise UnclearOutput(0, "the output of replay is not that of judge", file=file.name)
-        seats = len(row.told["s"])
+        seats = len(row.summary["s"])
         row.names = [name or f"p{seat}" for seat, name in
                      enumerate(note.get("players") or [""] * seats, 1)]
         if any(note.get("antes", ())):
-            row.told["a"] = note["antes"]
-        row.told["b"] = int(row.told["g"] not in ("F7S", "F7S/8", "FR"))
-        row.told["m"] = _moment(note)
+            row.summary["a"] = note["antes"]
+        row.summary["b"] = int(row.summary["g"] not in ("F7S", "F7S/8", "FR"))
+        row.summary["m"] = _moment(note)
         if not row.refused:
             row.net = [(name, end - start) for name, end, start in
-                       zip(row.names, row.told["f"], row.told["s"])]
+                       zip(row.names, row.summary["f"], row.summary["s"])]
 
 
 def _numbers(text: str) -> list[int]:
     return [int(word) for word in text.split()]
 
 
-def _told(text: str) -> dict[str, Any]:
+def _summary(text: str) -> dict[str, Any]:
     """A hand of `replay` in short: what each event adds is read back from its chips. UnclearOutput:
     the chips of an event are not those of one seat that moves."""
     lines = text.split("\n")
     head, first = lines[0].split(" "), lines[1].split(" | ")
     stacks, put = first[1].partition(" ")[2], first[2].partition(" ")[2]
     start = [left + paid for left, paid in zip(_numbers(stacks), _numbers(put))]
-    told: dict[str, Any] = {"g": head[1], "s": start, "i": _numbers(put)}
+    summary: dict[str, Any] = {"g": head[1], "s": start, "i": _numbers(put)}
     events: list[str] = []
     returned: dict[int, int] = {}
     pots: list[list[Any]] = []
@@ -140,9 +140,9 @@ def _told(text: str) -> dict[str, Any]:
             rake = re.search(r"rake (\d+)$", line)
             pots.append([int(line.split(" ")[2][:-1]), shares, int(rake[1]) if rake else 0])
         elif line.startswith("finish "):
-            told.update(r=returned, t=pots, f=_numbers(line[7:]))
-    told["e"] = ";".join(events)
-    return told
+            summary.update(r=returned, t=pots, f=_numbers(line[7:]))
+    summary["e"] = ";".join(events)
+    return summary
 
 
 def _added(words: str, before_it: list[int], put: list[int], left: list[int],
@@ -169,10 +169,10 @@ def _notes_of_each(file: File, rows: list[Hand], words: list[str]) -> list[dict[
     if any(row.place > 1 for row in rows):
         return [{} for _ in rows]  # Python does not read the file
     legal = [row.data for row in rows if not row.refused]
-    told = iter(_notes(handref.run(["convert", *words, "--to", "phh"], together(
+    notes = iter(_notes(handref.run(["convert", *words, "--to", "phh"], together(
         legal, file.notation)).decode(), len(legal)) if legal else [])
     own = _note_of_phh if file.notation == "phh" else _note_of_ohh
-    return [own(row.data) if row.refused else next(told, {}) for row in rows]
+    return [own(row.data) if row.refused else next(notes, {}) for row in rows]
 
 
 def _note_of_phh(data: bytes) -> dict[str, Any]:
@@ -236,37 +236,37 @@ def _note(block: str) -> dict[str, Any]:
 def _moment(note: dict[str, Any]) -> str:
     """What is known of a hand besides its names: its own number, its table, its day."""
     day = "-".join(f"{note[key]:02}" for key in ("year", "month", "day") if key in note)
-    told = [f"{key} {note[key]}" for key in ("hand", "table") if key in note]
-    told += [str(note[key]) for key in ("venue", "currency") if key in note]
-    told.append(" ".join([day] * bool(day) + [str(note[key]) for key in ("time", "time_zone")
+    parts = [f"{key} {note[key]}" for key in ("hand", "table") if key in note]
+    parts += [str(note[key]) for key in ("venue", "currency") if key in note]
+    parts.append(" ".join([day] * bool(day) + [str(note[key]) for key in ("time", "time_zone")
                                              if key in note]))
-    return " · ".join(shown(text) for text in told if text)
+    return " · ".join(shown(text) for text in parts if text)
 
 
 def session(file: File, hands: Sequence[Hand], legal: bytes) -> Optional[handref.Session]:
     """What `session` says of the legal hands, and None where names make it unclear."""
     try:
-        told = handref.session(legal, file.notation, file.game)
+        session = handref.session(legal, file.notation, file.game)
     except UnclearOutput:
         return None
     nets: dict[str, int] = {}
     for hand in hands:
         for name, net in hand.net:
             nets[name] = nets.get(name, 0) + net
-    if {row.name: row.net for row in told.rows} != nets:
+    if {row.name: row.net for row in session.rows} != nets:
         raise UnclearOutput(0, "the net chips of session and replay differ", file=file.name)
-    return told
+    return session
 
 
 def ask_moves(made: Page, is_chosen: bool) -> None:
     """Asks for the legal moves and the equity of each street, where hands are few or chosen."""
-    some = [hand for hand in made.hands if hand.told and hand.told["e"].count(";") < 400]
+    some = [hand for hand in made.hands if hand.summary and hand.summary["e"].count(";") < 400]
     if len(some) > MOST_ASKED and not is_chosen:
         some = [hand for hand in some if hand.refused]
     some = some[:MOST_CHOSEN if is_chosen else MOST_ASKED]
     asked: list[tuple[Hand, str, int]] = []
     for hand in some:
-        events = hand.told["e"].split(";") if hand.told["e"] else []
+        events = hand.summary["e"].split(";") if hand.summary["e"] else []
         asked.append((hand, "options", 0))
         board, street = 0, {3: 2, 4: 3, 5: 4}
         for words in events if not hand.refused else []:
@@ -276,16 +276,16 @@ def ask_moves(made: Page, is_chosen: bool) -> None:
     answers = at_once(lambda row: _answer(row[0], row[1], row[2]), asked)
     for (hand, command, place), answer in zip(asked, answers):
         if command == "options":
-            hand.told["o"] = answer
+            hand.summary["o"] = answer
         else:
-            hand.told.setdefault("q", {})[place] = answer
+            hand.summary.setdefault("q", {})[place] = answer
 
 
 def _options(hand: Hand) -> dict[int, str]:
     """What `options` says of a hand at each move, and at its last point."""
     words = ["options", *_words(hand.file), f"--hand={hand.place}"]
     points, _ = handref._points(handref.run(words, hand.data).decode())
-    events = hand.told["e"].split(";") if hand.told["e"] else []
+    events = hand.summary["e"].split(";") if hand.summary["e"] else []
     if len(points) != len(events) + 1:
         raise UnclearOutput(0, "the output of options is cut", file=hand.file.name)
     return {place: text.partition(": ")[2].replace("\n", ";")[:-1]
@@ -297,12 +297,12 @@ def _answer(hand: Hand, command: str, place: int) -> Union[str, dict[Any, Any]]:
     if command == "options":
         return _options(hand)
     try:
-        told = handref.equity(hand.data, hand.file.notation, hand.place, place, hand.file.game)
+        equity = handref.equity(hand.data, hand.file.notation, hand.place, place, hand.file.game)
     except HandrefError as error:
         if error.status != 13:
             raise
         return f"the cards of {error.place} are not all known" if error.place else error.line
-    answer: dict[str, Any] = {"t": told.total, "w": told.high}
-    if told.low:
-        answer.update(n=told.low_none, l=told.low)
+    answer: dict[str, Any] = {"t": equity.total, "w": equity.high}
+    if equity.low:
+        answer.update(n=equity.low_none, l=equity.low)
     return answer
