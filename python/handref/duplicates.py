@@ -8,7 +8,7 @@ import hashlib
 import re
 import sqlite3
 
-from handref import hand_numbers, toml
+from handref import hand_numbers, texts, toml
 from handref.formats import PHH_KEYS, PHH_NOTES
 from handref.results import Done, Rows, numbers_of
 
@@ -42,6 +42,7 @@ def _play(hand: bytes) -> bytes:
 
 class Seen:
     """The hands that were seen, and where each was seen first."""
+    columns = COLUMNS
 
     def __init__(self) -> None:
         self.rows = sqlite3.connect("")  # a file that goes away, and is in memory while it is small
@@ -71,3 +72,7 @@ class Seen:
         rows.put({"file": self.files[place][0], "hand": hand, "as_file": self.files[other][0],
                   "as_hand": as_hand}, f"{self.files[place][1]} hand {hand}: as "
                  f"{self.files[other][1]} hand {as_hand}\n")
+
+    def finish(self, rows: Rows) -> None:
+        """Writes how many of the hands were seen before."""
+        rows.head(f"duplicates: {self.found} of {texts.counted(self.hands, 'hand')}\n")

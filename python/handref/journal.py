@@ -17,7 +17,7 @@ import time
 from contextlib import contextmanager
 from dataclasses import asdict, dataclass, field
 from pathlib import Path
-from typing import Any, Iterator, Optional
+from typing import Any, Iterator, Optional, Union
 
 import handref
 from handref import Notation, outputs
@@ -51,19 +51,20 @@ class Answer:
 @dataclass
 class Call:
     """What is to be done with each piece."""
-    command: str  # check, judge, convert, report, session, replay or duplicates
+    command: str  # check, judge, convert, report, session, replay, views, duplicates or match
     game: handref.Game = None
     to: Optional[Notation] = None
     drop_notes: bool = False  # of duplicates: only the play is compared
     keep_going: bool = False
     layout: str = "each"  # of convert: each file, one of all (join), or one for each hand (split)
     each: bool = False  # of replay: a refused hand up to there; of convert: all hands but those
+    who: Union[int, str, None] = None  # of views: the seat, or the name of an agent
 
     @property
     def leaves_out(self) -> bool:
         """Whether a hand with which nothing can be done is left out, and not its whole file."""
         return self.each if self.command == "convert" else \
-            self.keep_going and self.command in ("report", "session", "duplicates")
+            self.keep_going and self.command in ("report", "session", "duplicates", "match")
 
     def is_verdict(self, status: int, hand: Optional[int] = None) -> bool:
         """Whether what is wrong with a hand is part of the answer, and does not end the call."""

@@ -5,9 +5,11 @@ import sys
 from typing import Any, Optional
 
 import handref
-from handref import many, texts
+from handref import duplicates, many, page, results, texts
 from handref.importing import restore
 from handref.journal import Call
+from handref.matches import match
+from handref.matches import page as match_page
 
 NOTATIONS = ("phh", "ohh", "ohh-to", "acpc")
 TASKS = {
@@ -18,9 +20,11 @@ TASKS = {
     "session": "says how the stack of each name went over all hands",
     "replay": "writes each hand step by step",
     "duplicates": "finds hands that are there more than once, in whatever notations and files",
+    "views": "writes what a seat or an agent saw of the hands of logs",
+    "match": "says what each agent of matches won, with an interval",
 }
-ALONE = ("duplicates",)  # tasks that are commands of their own too
-ON = ("check", "duplicates")  # tasks that go on after a problem by themselves
+ALONE = ("duplicates", "match")  # tasks that are commands of their own too
+ON = ("check", "duplicates", "match")  # tasks that go on after a problem by themselves
 
 
 def add(commands: "Any") -> None:
@@ -38,8 +42,11 @@ def add(commands: "Any") -> None:
 
 def _task(command: argparse.ArgumentParser, name: str) -> None:
     option = command.add_argument
-    option("--from", dest="notation", choices=NOTATIONS, metavar="NOTATION",
-           help="phh, ohh, ohh-to or acpc; else the end of a name says it, or the first bytes")
+    is_of_logs = name in many.OF_LOGS
+    option("--from", dest="notation", metavar="NOTATION",
+           choices=("acpc",) if is_of_logs else NOTATIONS,
+           help=f"{'acpc' if is_of_logs else 'phh, ohh, ohh-to or acpc'}; else the end of a name "
+           "says it, or the first bytes")
     option("--game", help="the game file of logs")
     if name == "convert":
         option("--to", choices=NOTATIONS, required=True, metavar="NOTATION")
@@ -66,13 +73,25 @@ def _task(command: argparse.ArgumentParser, name: str) -> None:
     if name == "replay":
         option("--each", action="store_true",
                help="each hand by itself: a refused one up to there, and then its verdict")
+    if name == "views":
+        who = command.add_mutually_exclusive_group(required=True)
+        who.add_argument("--seat", type=int, metavar="N", help="what this seat saw")
+        who.add_argument("--name", metavar="AGENT",
+                         help="what the agent with this name saw, at whatever seat")
     if name == "duplicates":
         option("--no-notes", action="store_true",
                help="compares the play alone: names, dates and other notes do not count")
+    if name == "match":
+        option("--duplicate", action="store_true", help="takes hands of equal numbers, with equal "
+               "cards and exchanged seats, together: the interval is over such pairs")
+        option("--html", metavar="OUT.html", help="writes a page with charts too")
+        option("--force", action="store_true",
+               help="writes over a file that is no page of handref")
     option("-j", "--jobs", type=int, metavar="N", help="pieces at a time; else the processors")
     option("-k", "--keep-going", action="store_true", help={
         "check": "goes on after a problem, as it does without this",
         "duplicates": "goes on after a problem, as it does without this",
+        "match": "goes on after a problem, as it does without this",
         "report": "leaves out hands that are not legal, and says how many of which files",
         "session": "leaves out hands that are not legal, and says how many of which files",
     }.get(name, "goes on after a file that is refused"))
@@ -90,25 +109,9 @@ def _task(command: argparse.ArgumentParser, name: str) -> None:
 def run_many(given: argparse.Namespace) -> int:
     """Runs a task over all files."""
     shard = _shard(given.shard)
-    if shard[1] > 1 and not given.journal:
-        raise ValueError("--shard needs --journal")
-    if given.jobs is not None and given.jobs < 1:
-        raise ValueError("-j is 1 or more")
-    if getattr(given, "restore", None) and (given.to != "phh" or given.join or given.split
-                                            or given.each):
-        raise ValueError("--restore is for --to phh, and not for --join, --split or --each")
-    if given.time < 1:
-        raise ValueError("--time is 1 second or more")
-    layout = "each"
-    if given.task == "convert":
-        layout = "join" if given.join else "split" if given.split else layout
+    _refuse_words(given, shard)
     form = next((name for name in ("json", "tsv", "csv") if getattr(given, name, False)), "text")
-    goes_on = given.keep_going or given.task in ON and not getattr(given, "exit_first", False)
-    call = Call(given.task, given.game, getattr(given, "to", None),
-                getattr(given, "drop_notes", False) or getattr(given, "no_notes", False), goes_on,
-                layout, getattr(given, "each", False))
-    if given.task == "duplicates":
-        call.to = "phh"
+    call = _call(given)
     # What is refused is a part of the answer of check, and of convert where all of it is wanted.
     is_said = given.task == "check" or given.task == "convert" and (given.keep_going or given.each)
 
@@ -121,7 +124,8 @@ def run_many(given: argparse.Namespace) -> int:
             print(text, file=sys.stderr, flush=True)
 
     asked = many.Asked(given.jobs, given.journal, given.resume, shard, tell, sys.stderr, form,
-                       seconds=given.time, note=note, force=getattr(given, "force", False))
+                       seconds=given.time, note=note, force=getattr(given, "force", False),
+                       gathered=_gathered(given))
     result = many.run(given.path, call, asked, given.notation, getattr(given, "out", ""))
     if shard[1] > 1:
         return 0
@@ -134,7 +138,54 @@ def run_many(given: argparse.Namespace) -> int:
         print(many.summary(result, given.task), flush=True)
     if result.left_out:
         note(many.left_out(result))
-    return result.status
+    return result.status or _ended(given, asked.gathered)
+
+
+def _refuse_words(given: argparse.Namespace, shard: tuple[int, int]) -> None:
+    """ValueError: words that do not go together."""
+    if shard[1] > 1 and not given.journal:
+        raise ValueError("--shard needs --journal")
+    if given.jobs is not None and given.jobs < 1:
+        raise ValueError("-j is 1 or more")
+    if getattr(given, "restore", None) and (given.to != "phh" or given.join or given.split
+                                            or given.each):
+        raise ValueError("--restore is for --to phh, and not for --join, --split or --each")
+    if given.time < 1:
+        raise ValueError("--time is 1 second or more")
+    if getattr(given, "html", None):
+        page.refuse_to_replace(given.html, given.force)
+
+
+def _call(given: argparse.Namespace) -> Call:
+    """What is to be done with each piece."""
+    layout = "each"
+    if given.task == "convert":
+        layout = "join" if given.join else "split" if given.split else layout
+    goes_on = given.keep_going or given.task in ON and not getattr(given, "exit_first", False)
+    to: Optional[handref.Notation] = getattr(given, "to", None)
+    if given.task in ("duplicates", "match"):
+        to = "phh" if given.task == "duplicates" else "acpc"
+    return Call(given.task, given.game, to,
+                getattr(given, "drop_notes", False) or getattr(given, "no_notes", False), goes_on,
+                layout, each=getattr(given, "each", False),
+                who=getattr(given, "name", None) or getattr(given, "seat", None))
+
+
+def _gathered(given: argparse.Namespace) -> Optional[results.Gathered]:
+    """What takes the hands of all files together."""
+    if given.task == "match":
+        return match.Match(given.game, given.duplicate, bool(given.html))
+    return duplicates.Seen() if given.task == "duplicates" else None
+
+
+def _ended(given: argparse.Namespace, gathered: Optional[results.Gathered]) -> int:
+    """Writes the page of a match; 1 if one of its SCORE lines is wrong."""
+    if not isinstance(gathered, match.Match):
+        return 0
+    if given.html and gathered.agents:
+        title = f"Match of {' and '.join(gathered.agents)}" if len(gathered.agents) < 4 else "Matches"
+        page.write(match_page.document(gathered, title), given.html, given.force)
+    return int(gathered.is_wrong)
 
 
 def _shard(text: Optional[str]) -> tuple[int, int]:

@@ -34,7 +34,7 @@ def session_part(made: Page) -> str:
 def _chart(lines: dict[str, list[tuple[int, int]]], most: Sequence[str], count: int) -> str:
     low = min(net for name in most for _, net in lines[name])
     high = max(net for name in most for _, net in lines[name])
-    ticks = _ticks(low, high)
+    ticks = ticks_of(low, high)
     low, high = min(low, ticks[0]), max(high, ticks[-1])
     left, right, top = _LEFT, _WIDE - _RIGHT, 15
 
@@ -52,10 +52,10 @@ def _chart(lines: dict[str, list[tuple[int, int]]], most: Sequence[str], count: 
     for tick in ticks:
         kind = "axis" if tick == 0 else "grid"
         parts.append(f'<path class="{kind}" d="M{left} {down(tick)}H{right}"/><text x="{left - 8}" '
-                     f'y="{down(tick) + 4}" text-anchor="end">{_rounded(tick)}</text>')
-    for place in _ticks(0, count):
+                     f'y="{down(tick) + 4}" text-anchor="end">{rounded(tick)}</text>')
+    for place in ticks_of(0, count):
         parts.append(f'<text x="{across(min(place, count))}" y="{_HIGH - 12}" '
-                     f'text-anchor="middle">{_rounded(place) if place <= count else ""}</text>')
+                     f'text-anchor="middle">{rounded(place) if place <= count else ""}</text>')
     ends = []
     for number, name in enumerate(most):
         points = _thinned(lines[name], count)
@@ -64,13 +64,13 @@ def _chart(lines: dict[str, list[tuple[int, int]]], most: Sequence[str], count: 
         parts.append(f'<path class="line c{number}" d="{path}">'
                      f"<title>{html.escape(shown(name))}</title></path>")
         ends.append([down(lines[name][-1][1]) + 4, name])
-    for height, name in _apart(ends):
+    for height, name in apart(ends):
         parts.append(f'<text class="at-end" x="{right + 6}" y="{height}">'
                      f"{html.escape(short(shown(name)))}</text>")
     return "".join(parts) + "</svg></div>"
 
 
-def _rounded(number: int) -> str:
+def rounded(number: int) -> str:
     """A number in thousands or millions where it is a multiple of these."""
     for size, sign in ((1_000_000, "M"), (1_000, "k")):
         if number and number % size == 0:
@@ -78,7 +78,8 @@ def _rounded(number: int) -> str:
     return spaced(number)
 
 
-def _ticks(low: int, high: int) -> list[int]:
+def ticks_of(low: int, high: int) -> list[int]:
+    """Round numbers that go from below the least to above the greatest."""
     step = 1
     while (high - low) // step > 6:
         step = step * 5 // 2 if str(step)[0] == "2" else step * 2
@@ -100,7 +101,7 @@ def _thinned(line: list[tuple[int, int]], count: int) -> list[tuple[int, int]]:
     return found
 
 
-def _apart(ends: list[list[Any]], least: int = 15) -> Iterable[tuple[float, str]]:
+def apart(ends: list[list[Any]], least: int = 15) -> Iterable[tuple[float, str]]:
     """Labels at heights that do not lie on one another."""
     height = -1000.0
     for wanted, name in sorted(ends):

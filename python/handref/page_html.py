@@ -47,7 +47,7 @@ def document(made: Page, title: str) -> str:
     parts = [
         "<!DOCTYPE html>", '<html lang="en">', "<head>", '<meta charset="utf-8">',
         '<meta http-equiv="Content-Security-Policy" content="default-src \'none\'; base-uri '
-        f"'none'; form-action 'none'; style-src {_hash(css)}; script-src {_hash(js)}\">",
+        f"'none'; form-action 'none'; style-src {hash_of(css)}; script-src {hash_of(js)}\">",
         MARK % _NO_SUM, '<meta name="viewport" content="width=device-width, initial-scale=1">',
         f"<title>{_text(title)}</title>", f"<style>{css}</style>", "</head>", "<body>",
         f"<header><h1>{_text(title)}</h1>", _summary(made), "</header>", "<main>",
@@ -68,7 +68,8 @@ def _text(text: str) -> str:
     return html.escape(shown(text))
 
 
-def _hash(text: str) -> str:
+def hash_of(text: str) -> str:
+    """What the policy of a page names a style or a script by."""
     return f"'sha256-{base64.b64encode(hashlib.sha256(text.encode()).digest()).decode()}'"
 
 

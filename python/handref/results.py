@@ -6,11 +6,12 @@ import tempfile
 from dataclasses import dataclass, field
 from itertools import count as numbers_from
 from itertools import islice
-from typing import IO, Any, BinaryIO, Iterator, Mapping, Optional, Sequence
+from typing import IO, Any, BinaryIO, Iterator, Mapping, Optional, Protocol, Sequence
 
 import handref
 from handref import hand_numbers, outputs, tables
 from handref.journal import Call
+from handref.matches import views
 from handref.sources import Source
 
 
@@ -95,6 +96,20 @@ class Rows:
             self.output.write(text)
 
 
+class Gathered(Protocol):
+    """What takes the texts of all files, one file after the other, and writes rows of them."""
+
+    @property
+    def columns(self) -> Sequence[str]:
+        """The names of the columns of its rows."""
+
+    def put(self, rows: Rows, done: Done) -> None:
+        """Takes a file."""
+
+    def finish(self, rows: Rows) -> None:
+        """Writes what there is at the end."""
+
+
 # Verdicts and replays: rows of each file.
 
 def put_verdicts(rows: Rows, source: Source, told: Any, hands: int, legal: int, before: int,
@@ -132,6 +147,20 @@ def put_replays(rows: Rows, done: Done) -> None:
                         is_of_hand = line.startswith("hand ")  # its first line, and its verdict
                         rows.output.write(f"{done.source.shown}: " * is_of_hand + line)
         os.remove(part.path)
+
+
+def put_views(rows: Rows, done: Done) -> int:
+    """The rows of what an agent saw of a file, and how many there are."""
+    count = 0
+    for part in done.parts:
+        with open(part.path, encoding="utf-8", errors="surrogateescape", newline="\n") as file:
+            for text in file:
+                hand, _, line = text[:-1].partition(" ")
+                count += 1
+                rows.put(views.row(done.source.name or done.source.path,
+                                   int(hand) + part.hands_before, line), f"{line}\n")
+        os.remove(part.path)
+    return count
 
 
 def _each_hand(file: Any, before: int) -> Iterator[str]:

@@ -21,7 +21,7 @@ from handref import Game, Notation, inputs
 from handref.inputs import Anything
 
 Command = Literal["check", "judge", "report", "session", "changes", "replay"]
-Value = Union[int, str, None]
+Value = Union[int, float, str, None]
 Table = Iterator[dict[str, Value]]
 
 COLUMNS: Mapping[str, tuple[str, ...]] = {
@@ -57,8 +57,8 @@ def json_line(row: Mapping[str, Value]) -> str:
 
 def tsv_line(row: Iterable[Value]) -> str:
     """A row with tabs between its columns."""
-    return "\t".join("" if value is None else str(value) if isinstance(value, int)
-                     else escaped(value) for value in row) + "\n"
+    return "\t".join("" if value is None else escaped(value) if isinstance(value, str)
+                     else str(value) for value in row) + "\n"
 
 
 def csv_line(row: Iterable[Value]) -> str:

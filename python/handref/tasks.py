@@ -7,6 +7,7 @@ import handref
 from handref import (HandrefError, Piece, UnclearOutput, duplicates, hand_numbers, phhs,
                      results, single_hands, tables)
 from handref.journal import Answer, Call
+from handref.matches import played, views
 from handref.sources import Region, Source
 
 
@@ -28,10 +29,12 @@ def _made(region: Region, call: Call, data: bytes, answer: Answer) -> None:
         _judged(data, region, call, answer)
         return
     try:
-        if call.command in ("convert", "duplicates"):
+        if call.command in ("convert", "duplicates", "match"):
             _converted(region, call, data, answer)
         elif call.command == "replay":
             _replayed(region, call, data, answer)
+        elif call.command == "views":
+            _viewed(region, call, data, answer)
         else:
             _summed(region, call, data, answer)
     except HandrefError as error:
@@ -76,7 +79,7 @@ def _game_of(source: Source, call: Call) -> handref.Game:
 
 def _words(command: str, source: Source, call: Call) -> list[str]:
     """The words of a call of the program over a piece of a file."""
-    game = call.game if call.to == "acpc" else _game_of(source, call)
+    game = call.to == "acpc" and call.game or _game_of(source, call)
     return [command, "--from", source.notation, *(["--game", os.fspath(game)] if game else [])]
 
 
@@ -138,8 +141,8 @@ def _without_some(region: Region, call: Call, data: bytes, answer: Answer,
                   error: HandrefError) -> None:
     """Does with the hands of a piece what can be done with them, and notes the others."""
     legal = _judged_apart(data, region, call, error, answer)
-    if legal is not None and call.command in ("convert", "duplicates"):
-        _converted_apart(region.source, call, legal, answer)
+    if legal is not None and call.command in ("convert", "duplicates", "match"):
+        _converted_apart(region.source, call, legal, answer, data)
     elif legal:
         text = single_hands.together([hand.data for hand in legal], region.source.notation)
         _add_rows(region.source, call, text, answer)
@@ -158,6 +161,8 @@ def _converted(region: Region, call: Call, data: bytes, answer: Answer) -> None:
     answer.hands = answer.legal = hands
     if call.command == "duplicates":
         text = duplicates.ids(text, call.drop_notes)
+    elif call.command == "match":
+        text = played.with_scores(data, text.split(b"\n"), set())
     elif region.number or call.layout != "each" or call.each:
         text = _alone(source, call, text, _bodies(region, data))
     answer.text = text
@@ -184,7 +189,8 @@ def _alone(source: Source, call: Call, text: bytes, bodies: Sequence[bytes]) -> 
     return hand_numbers.document(hand_numbers.alone(text, call.to, are_own), call.to)
 
 
-def _converted_apart(source: Source, call: Call, legal: list[Piece], answer: Answer) -> None:
+def _converted_apart(source: Source, call: Call, legal: list[Piece], answer: Answer,
+                     data: bytes) -> None:
     """Writes the legal hands of a piece that the other notation can write, and notes the others."""
     assert call.to
     written: list[bytes] = []
@@ -198,9 +204,16 @@ def _converted_apart(source: Source, call: Call, legal: list[Piece], answer: Ans
         if call.command == "duplicates":
             written.append(duplicates.ids(made, call.drop_notes))
             continue
+        if call.command == "match":
+            written += made.split(b"\n")[:-1]
+            continue
         are_own = hand_numbers.own([hand.data for hand in group], source.notation)
         written += hand_numbers.alone(made, call.to, are_own)
     answer.problems.sort(key=lambda problem: problem[0] or answer.hands)
+    if call.command == "match":
+        answer.text = played.with_scores(data, written, {
+            hand for hand, _, _, _ in answer.problems if hand})
+        return
     answer.text = b"".join(written) if call.command == "duplicates" else \
         hand_numbers.document(written, call.to)
 
@@ -216,6 +229,14 @@ def _replayed(region: Region, call: Call, data: bytes, answer: Answer) -> None:
     _note_refused(answer, text, data, source)
     answer.legal = answer.hands - len(answer.problems)
     answer.text = text
+
+
+def _viewed(region: Region, call: Call, data: bytes, answer: Answer) -> None:
+    """Keeps what a seat or an agent saw, with the place of each hand in front."""
+    assert call.who is not None
+    said = views.of(data, _game_of(region.source, call), call.who)
+    answer.text = b"".join(b"%d %s\n" % each for each in said)
+    answer.hands = answer.legal = len(tables.lines_of(data))
 
 
 def _hands(source: Source, data: bytes) -> int:
