@@ -62,6 +62,7 @@ Tools in Python around the proved program (try --help after each):
   handref many COMMAND [OPTION..] PATH..                 folders and files of any length, on all processors
   handref duplicates [OPTION..] PATH..                   hands that are there more than once, in whatever notations
   handref match [OPTION..] LOG..                         what each agent won, in mbb/g with intervals
+  handref verify CERTIFICATE                             whether a conversion is what its certificate says
   handref explain PATH.. [LINE]                          where a fault is, what it means, what would be legal
   handref import --out FOLDER PATH..                     files of sites, trackers and dealers, as handref reads them
 
@@ -107,7 +108,7 @@ usage_line() (
 # does not have these, and the tools in Python have help of their own.
 asks_for_help() {
     case $#:${1-}:${2-} in
-    2:page:* | 2:many:* | 2:explain:* | 2:import:* | 2:duplicates:* | 2:match:*) return 1 ;;
+    2:page:* | 2:many:* | 2:explain:* | 2:import:* | 2:duplicates:* | 2:match:* | 2:verify:*) return 1 ;;
     1:--help: | 1:-h: | 1:help: | 2:[!-]*:--help | 2:[!-]*:-h | 2:help:[!-]*) return 0 ;;
     esac
     return 1

@@ -38,7 +38,8 @@ def main(given: List[str]) -> int:
                                         dashboard_address=None)) as client:
         shares = max(1, sum(client.nthreads().values()))
         client.gather(client.map(share, [words] * shares, range(1, shares + 1),
-                                 [shares] * shares, pure=False))
+                                 [shares] * shares, pure=False),
+                      errors="skip")  # what a worker has not done is done below
     return subprocess.run(words).returncode
 
 

@@ -54,7 +54,7 @@ class Call:
     command: str  # check, judge, convert, report, session, replay, views, duplicates or match
     game: handref.Game = None
     to: Optional[Notation] = None
-    drop_notes: bool = False  # of duplicates: only the play is compared
+    drop_notes: bool = False
     keep_going: bool = False
     layout: str = "each"  # of convert: each file, one of all (join), or one for each hand (split)
     each: bool = False  # of replay: a refused hand up to there; of convert: all hands but those

@@ -5,7 +5,7 @@ import sys
 from typing import Any, Optional
 
 import handref
-from handref import duplicates, many, page, results, texts
+from handref import certificate, copies, duplicates, many, outputs, page, results, texts
 from handref.importing import restore
 from handref.journal import Call
 from handref.matches import match
@@ -48,52 +48,20 @@ def _task(command: argparse.ArgumentParser, name: str) -> None:
            help=f"{'acpc' if is_of_logs else 'phh, ohh, ohh-to or acpc'}; else the end of a name "
            "says it, or the first bytes")
     option("--game", help="the game file of logs")
-    if name == "convert":
-        option("--to", choices=NOTATIONS, required=True, metavar="NOTATION")
-        option("--out", required=True, help="a file, or a folder for many")
-        option("--drop-notes", action="store_true",
-               help="leaves out the notes that the notation does not write")
-        option("--each", action="store_true", help="leaves out hands that cannot be written, and "
-               "lists them in OUT.left-out; else a file is converted whole or not at all")
-        option("--force", action="store_true",
-               help="writes over files that are there and that handref has not made")
-        option("--restore", metavar="FILE", help="puts back the keys of PHH that handref does not "
-               "keep, from the other-keys.jsonl of an import")
-        layout = command.add_mutually_exclusive_group()
-        layout.add_argument("--join", action="store_true", help="all hands in the one file OUT")
-        layout.add_argument("--split", action="store_true",
-                            help="each hand in a file of its own, in the folder OUT")
-    elif name != "check":
+    if name not in ("check", "convert"):
         form = command.add_mutually_exclusive_group()
         form.add_argument("--json", action="store_true", help="a line of JSON for each row")
         form.add_argument("--tsv", action="store_true",
                           help="columns with tabs between, and a first line with their names")
         form.add_argument("--csv", action="store_true",
                           help="columns with commas between, and a first line with their names")
-    if name == "replay":
-        option("--each", action="store_true",
-               help="each hand by itself: a refused one up to there, and then its verdict")
-    if name == "views":
-        who = command.add_mutually_exclusive_group(required=True)
-        who.add_argument("--seat", type=int, metavar="N", help="what this seat saw")
-        who.add_argument("--name", metavar="AGENT",
-                         help="what the agent with this name saw, at whatever seat")
-    if name == "duplicates":
-        option("--no-notes", action="store_true",
-               help="compares the play alone: names, dates and other notes do not count")
-    if name == "match":
-        option("--duplicate", action="store_true", help="takes hands of equal numbers, with equal "
-               "cards and exchanged seats, together: the interval is over such pairs")
-        option("--html", metavar="OUT.html", help="writes a page with charts too")
-        option("--force", action="store_true",
-               help="writes over a file that is no page of handref")
+    {"convert": _convert_words, "replay": _replay_words, "views": _views_words,
+     "duplicates": _duplicates_words, "match": _match_words}.get(name, _no_words)(command)
     option("-j", "--jobs", type=int, metavar="N", help="pieces at a time; else the processors")
+    by_itself = "goes on after a problem, as it does without this"
+    leaves_out = "leaves out hands that are not legal, and says how many of which files"
     option("-k", "--keep-going", action="store_true", help={
-        "check": "goes on after a problem, as it does without this",
-        "duplicates": "goes on after a problem, as it does without this",
-        "match": "goes on after a problem, as it does without this",
-        "report": "leaves out hands that are not legal, and says how many of which files",
-        "session": "leaves out hands that are not legal, and says how many of which files",
+        **dict.fromkeys(ON, by_itself), "report": leaves_out, "session": leaves_out,
     }.get(name, "goes on after a file that is refused"))
     if name == "check":
         option("-x", "--exit-first", action="store_true", help="ends at the first problem")
@@ -104,6 +72,63 @@ def _task(command: argparse.ArgumentParser, name: str) -> None:
     option("--journal", metavar="FOLDER", help="notes what is done there, and keeps the notes")
     option("--shard", metavar="I/N", help="does every Nth piece, for the call that has all")
     option("path", nargs="+", metavar="PATH", help="files and folders; - is the standard input")
+
+
+def _no_words(command: argparse.ArgumentParser) -> None:
+    """Most tasks have no words of their own."""
+
+
+def _convert_words(command: argparse.ArgumentParser) -> None:
+    option = command.add_argument
+    option("--to", choices=NOTATIONS, required=True, metavar="NOTATION")
+    option("--out", required=True, help="a file, or a folder for many")
+    option("--drop-notes", action="store_true",
+           help="leaves out the notes that the notation does not write")
+    option("--each", action="store_true", help="leaves out hands that cannot be written, and "
+           "lists them in OUT.left-out; else a file is converted whole or not at all")
+    option("--force", action="store_true",
+           help="writes over files that are there and that handref has not made")
+    option("--restore", metavar="FILE", help="puts back the keys of PHH that handref does not "
+           "keep, from the other-keys.jsonl of an import")
+    option("--certificate", metavar="FILE", help="writes there what was converted by what and to "
+           "what, with sums, for handref verify")
+    option("--import-journal", metavar="FILE", help="the journal of the import that has made these "
+           "files, to be named in the certificate")
+    layout = command.add_mutually_exclusive_group()
+    layout.add_argument("--join", action="store_true", help="all hands in the one file OUT")
+    layout.add_argument("--split", action="store_true",
+                        help="each hand in a file of its own, in the folder OUT")
+
+
+def _replay_words(command: argparse.ArgumentParser) -> None:
+    command.add_argument("--each", action="store_true", help="each hand by itself: a refused one up "
+                         "to there, and then its verdict")
+
+
+def _views_words(command: argparse.ArgumentParser) -> None:
+    who = command.add_mutually_exclusive_group(required=True)
+    who.add_argument("--seat", type=int, metavar="N", help="what this seat saw")
+    who.add_argument("--name", metavar="AGENT",
+                     help="what the agent with this name saw, at whatever seat")
+
+
+def _duplicates_words(command: argparse.ArgumentParser) -> None:
+    option = command.add_argument
+    option("--no-notes", action="store_true",
+           help="lists hands with the same play too: names, dates and other notes do not count")
+    option("--remove", action="store_true", help="writes the files again below --out, each hand "
+           "once, and OUT/left-out.csv")
+    option("--out", metavar="FOLDER", help="where --remove writes")
+    option("--force", action="store_true",
+           help="writes over files that are there and that handref has not made")
+
+
+def _match_words(command: argparse.ArgumentParser) -> None:
+    option = command.add_argument
+    option("--duplicate", action="store_true", help="takes hands of equal numbers, with equal cards "
+           "and exchanged seats, together: the interval is over such pairs")
+    option("--html", metavar="OUT.html", help="writes a page with charts too")
+    option("--force", action="store_true", help="writes over a file that is no page of handref")
 
 
 def run_many(given: argparse.Namespace) -> int:
@@ -126,9 +151,12 @@ def run_many(given: argparse.Namespace) -> int:
     asked = many.Asked(given.jobs, given.journal, given.resume, shard, tell, sys.stderr, form,
                        seconds=given.time, note=note, force=getattr(given, "force", False),
                        gathered=_gathered(given))
-    result = many.run(given.path, call, asked, given.notation, getattr(given, "out", ""))
+    result = many.run(given.path, call, asked, given.notation,
+                      given.out if given.task == "convert" else "")
     if shard[1] > 1:
         return 0
+    if getattr(given, "certificate", None):
+        _certify(given, result, call, asked)
     if getattr(given, "restore", None) and result.legal_files:
         done, missing = restore.restore(given.restore, given.out, given.path[0])
         print(f"keys put back: {texts.counted(done, 'hand')}"
@@ -138,7 +166,19 @@ def run_many(given: argparse.Namespace) -> int:
         print(many.summary(result, given.task), flush=True)
     if result.left_out:
         note(many.left_out(result))
-    return result.status or _ended(given, asked.gathered)
+    ended = _ended(given, asked.gathered) if result.is_complete else 0
+    return result.status or ended
+
+
+def _certify(given: argparse.Namespace, result: many.Result, call: Call,
+             asked: many.Asked) -> None:
+    """Writes the certificate of a conversion that has come to its end."""
+    if result.is_complete:
+        certificate.write(given.certificate, result, call, asked,
+                          certificate.of_words(given.words), given.import_journal)
+    else:
+        print(f"{texts.shown(given.certificate)}: not written, as not all was converted",
+              file=sys.stderr, flush=True)
 
 
 def _refuse_words(given: argparse.Namespace, shard: tuple[int, int]) -> None:
@@ -152,6 +192,16 @@ def _refuse_words(given: argparse.Namespace, shard: tuple[int, int]) -> None:
         raise ValueError("--restore is for --to phh, and not for --join, --split or --each")
     if given.time < 1:
         raise ValueError("--time is 1 second or more")
+    if getattr(given, "certificate", None):
+        if given.restore or "-" in given.path:
+            raise ValueError("--certificate is for files as they are converted, and not for "
+                             "--restore or the standard input")
+        outputs.refuse_to_replace(given.certificate, given.force)
+    elif getattr(given, "import_journal", None):
+        raise ValueError("--import-journal is for --certificate")
+    if given.task == "duplicates" and (given.remove != bool(given.out) or given.remove
+                                       and "-" in given.path):
+        raise ValueError("--remove and --out go together, and not with the standard input")
     if getattr(given, "html", None):
         page.refuse_to_replace(given.html, given.force)
 
@@ -166,8 +216,7 @@ def _call(given: argparse.Namespace) -> Call:
     if given.task in ("duplicates", "match"):
         to = "phh" if given.task == "duplicates" else "acpc"
     return Call(given.task, given.game, to,
-                getattr(given, "drop_notes", False) or getattr(given, "no_notes", False), goes_on,
-                layout, each=getattr(given, "each", False),
+                getattr(given, "drop_notes", False), goes_on, layout, each=getattr(given, "each", False),
                 who=getattr(given, "name", None) or getattr(given, "seat", None))
 
 
@@ -175,11 +224,14 @@ def _gathered(given: argparse.Namespace) -> Optional[results.Gathered]:
     """What takes the hands of all files together."""
     if given.task == "match":
         return match.Match(given.game, given.duplicate, bool(given.html))
-    return duplicates.Seen() if given.task == "duplicates" else None
+    return duplicates.Seen(given.no_notes, given.remove) if given.task == "duplicates" else None
 
 
 def _ended(given: argparse.Namespace, gathered: Optional[results.Gathered]) -> int:
-    """Writes the page of a match; 1 if one of its SCORE lines is wrong."""
+    """Writes the page of a match, or the files without duplicates; 1 if a SCORE line is wrong."""
+    if isinstance(gathered, duplicates.Seen) and given.remove:
+        is_folder = len(given.path) == 1 and os.path.isdir(given.path[0])
+        print(copies.write(gathered, given.out, is_folder, given.force), file=sys.stderr, flush=True)
     if not isinstance(gathered, match.Match):
         return 0
     if given.html and gathered.agents:

@@ -289,6 +289,7 @@ class Files:
     def __init__(self, call: Call, out: str, force: bool) -> None:
         self.call, self.out, self.force = call, out, force
         self.joined: list[Done] = []
+        self.written: list[tuple[str, str]] = []  # the paths of files, and their places in `out`
 
     def take(self, done: Done) -> None:
         """Writes what is made of a file; where files are joined, at the end."""
@@ -314,6 +315,7 @@ class Files:
                     for text in self._hands(part, number, count):
                         file.write(text)
                     number += part.hands
+            self._note(out)
         for path in {part.path for done in files for part in done.parts}:
             os.remove(path)
         self._list_left_out(out, files)
@@ -342,8 +344,12 @@ class Files:
             for hand, number in zip(hand_numbers.hands(text, to), numbers_of(part, done)):
                 with outputs.written(f"{stem}-{number}.{to}", self.force) as new:
                     new.writelines(hand_numbers.placed(hand, to, 0))
+                self._note(f"{stem}-{number}.{to}")
             os.remove(part.path)
         self._list_left_out(stem, [done])
+
+    def _note(self, path: str) -> None:
+        self.written.append((path, path[len(self.out):].lstrip(os.sep)))
 
     def _list_left_out(self, out: str, files: Sequence[Done]) -> None:
         """Writes the list of the hands that a file could have had, or takes an old one away."""
@@ -353,6 +359,7 @@ class Files:
         if lines:
             with outputs.written(f"{out}.left-out", self.force) as file:
                 file.write("".join(lines).encode())
+            self._note(f"{out}.left-out")
         elif os.path.exists(f"{out}.left-out"):
             outputs.refuse_to_replace(f"{out}.left-out", self.force)
             os.remove(f"{out}.left-out")

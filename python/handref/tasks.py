@@ -1,6 +1,7 @@
 """What is done with each piece of a file, apart from all others."""
 import os
 import re
+from dataclasses import replace
 from typing import Optional, Sequence
 
 import handref
@@ -29,7 +30,10 @@ def _made(region: Region, call: Call, data: bytes, answer: Answer) -> None:
         _judged(data, region, call, answer)
         return
     try:
-        if call.command in ("convert", "duplicates", "match"):
+        if call.command == "duplicates":
+            answer.text = _ids(region.source, call, data, _bodies_read(region, data))
+            answer.hands = answer.legal = len(answer.text) // duplicates.SIZE
+        elif call.command in ("convert", "match"):
             _converted(region, call, data, answer)
         elif call.command == "replay":
             _replayed(region, call, data, answer)
@@ -141,7 +145,9 @@ def _without_some(region: Region, call: Call, data: bytes, answer: Answer,
                   error: HandrefError) -> None:
     """Does with the hands of a piece what can be done with them, and notes the others."""
     legal = _judged_apart(data, region, call, error, answer)
-    if legal is not None and call.command in ("convert", "duplicates", "match"):
+    if legal is not None and call.command == "duplicates":
+        _identified_apart(region.source, call, legal, answer)
+    elif legal is not None and call.command in ("convert", "match"):
         _converted_apart(region.source, call, legal, answer, data)
     elif legal:
         text = single_hands.together([hand.data for hand in legal], region.source.notation)
@@ -159,13 +165,51 @@ def _converted(region: Region, call: Call, data: bytes, answer: Answer) -> None:
             text.endswith(b"\n") if text else _is_empty(source, call, data)):
         raise UnclearOutput(0, "the output of convert is cut", file=source.path)
     answer.hands = answer.legal = hands
-    if call.command == "duplicates":
-        text = duplicates.ids(text, call.drop_notes)
-    elif call.command == "match":
+    if call.command == "match":
         text = played.with_scores(data, text.split(b"\n"), set())
     elif region.number or call.layout != "each" or call.each:
         text = _alone(source, call, text, _bodies(region, data))
     answer.text = text
+
+
+# Ids.
+
+def _bodies_read(region: Region, data: bytes) -> Optional[list[bytes]]:
+    """The hands of a piece, each a file of its own; None where Python does not read them."""
+    try:
+        return _bodies(region, data)
+    except ValueError:
+        return None
+
+
+def _ids(source: Source, call: Call, data: bytes, bodies: Optional[list[bytes]]) -> bytes:
+    """The ids of hands, which are these as files of their own (of a log that does not matter): from
+    the program, or else of what it writes in PHH."""
+    are_own = hand_numbers.own(bodies, source.notation) if bodies is not None else None
+    if duplicates.has_ids():
+        text = handref.run(_words("ids", source, replace(call, to=None)), data)
+        found = duplicates.ids_of_program(text, are_own)
+    else:
+        found = duplicates.ids(_convert(source, call, data), are_own)
+    count = _hands(source, data) if source.notation != "phh" else \
+        len(bodies) if bodies is not None else len(found) // duplicates.SIZE
+    if len(found) != count * duplicates.SIZE:
+        raise UnclearOutput(0, "the output is cut", file=source.path)
+    return found
+
+
+def _identified_apart(source: Source, call: Call, legal: list[Piece], answer: Answer) -> None:
+    """The ids of the legal hands of a piece, and what is wrong with others."""
+    found: list[bytes] = []
+    for group, made in single_hands.apart(legal, lambda data: _convert(source, call, data)):
+        if isinstance(made, HandrefError):
+            _note_apart(answer, made, group[0])
+            answer.legal -= 1
+            continue
+        bodies = [hand.data for hand in group]
+        found.append(_ids(source, call, single_hands.together(bodies, source.notation), bodies))
+    answer.problems.sort(key=lambda problem: problem[0] or answer.hands)
+    answer.text = b"".join(found)
 
 
 def _convert(source: Source, call: Call, data: bytes) -> bytes:
@@ -201,9 +245,6 @@ def _converted_apart(source: Source, call: Call, legal: list[Piece], answer: Ans
             continue
         if _hands_written(made, call) != len(group):
             raise UnclearOutput(0, "the output of convert is cut", file=source.path)
-        if call.command == "duplicates":
-            written.append(duplicates.ids(made, call.drop_notes))
-            continue
         if call.command == "match":
             written += made.split(b"\n")[:-1]
             continue
@@ -214,8 +255,7 @@ def _converted_apart(source: Source, call: Call, legal: list[Piece], answer: Ans
         answer.text = played.with_scores(data, written, {
             hand for hand, _, _, _ in answer.problems if hand})
         return
-    answer.text = b"".join(written) if call.command == "duplicates" else \
-        hand_numbers.document(written, call.to)
+    answer.text = hand_numbers.document(written, call.to)
 
 
 def _replayed(region: Region, call: Call, data: bytes, answer: Answer) -> None:

@@ -293,11 +293,22 @@ class Views(Match):
         """What the program itself says of a seat, also over pieces."""
         self.games()
         log = self.put("long.log", "".join(
-            (RAISED + BET) % (2 * number, AB, 2 * number + 1, BA) for number in range(10_000)))
+            (RAISED + BET) % (2 * number, AB, 2 * number + 1, BA) for number in range(12_000)))
         words = ["views", "--from", "acpc", "--game", str(MATCH), "--seat", "2"]
         self.assertGreater(log.stat().st_size, 1 << 20)
         self.assertEqual(self.call("many", "views", "--seat", "2", "long.log"),
                          handref.run(words, log.read_bytes()).decode())
+
+    def test_from_python(self):
+        log = (RAISED % (7, AB) + FOLDED % (8, BA)).encode()
+        self.assertEqual(handref.views(log, MATCH, name="B"), [
+            handref.View(1, 7, "", "|KdTc"), handref.View(1, 7, "r300", "|KdTc"),
+            handref.View(1, 7, "r300f", "|KdTc"), handref.View(0, 8, "", "9s8h|"),
+            handref.View(0, 8, "f", "9s8h|")])
+        self.assertEqual(handref.views(log, MATCH, 1)[0], handref.View(0, 7, "", "9s8h|"))
+        for words in ({}, {"seat": 1, "name": "B"}):
+            with self.assertRaises(ValueError):
+                handref.views(log, MATCH, **words)
 
     def test_nobody(self):
         self.games()
