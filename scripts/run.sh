@@ -3,7 +3,7 @@
 # filters do.
 
 # shellcheck shell=sh disable=SC2154 # words.sh sets slip and help_is
-hands='' told='' ended='' stays='' work='' spare='' shut=''
+hands='' told='' ended='' stays='' work='' spare='' shut='' line_end=''
 
 # Runs a program with words. It asks the C library for large pages, so that the kernel hands out
 # the memory of many hands in fewer pieces; a library that does not know them ignores this. The
@@ -90,15 +90,8 @@ run_in_pipe() {
 
 # Runs a program whose output is a terminal. Names can have control characters, which the terminal
 # would obey.
-# shellcheck disable=SC2154 # the scripts that read this file set package
 run_at_terminal() {
-    case $2 in
-    report | session) # a line end in a name would look like the end of a row
-        [ -d /dev/stdin ] || [ ! -f "$package/handref/terminal.py" ] ||
-            ! command -v python3 >/dev/null || set -- \
-            env PYTHONDONTWRITEBYTECODE=1 python3 -c "$start" "$package" handref.terminal "$@"
-        ;;
-    esac
+    case $2 in report | session) ! wanted "$@" || plain_names "$@" ;; esac
     find_spare
     eval "exec $spare>&1"
     terminal=$spare
@@ -110,6 +103,83 @@ run_at_terminal() {
     } $spare>&1")
     eval "exec $terminal>&-"
     ended=${told%% *} told=${told#* }
+}
+
+# Puts hands in the place of the standard input in whose names a sign that is nowhere else
+# (`line_end`) stands for each line end, since a name with one would look like the end of a row. Most
+# hands have none, and logs have none; where hands do not read, the program says so.
+plain_names() {
+    from=''
+    for word in "$@"; do
+        case $from:$word in
+        --from:* | *:--from=*) from=${word#--from=} && break ;;
+        *) from=$word ;;
+        esac
+    done
+    case $from in phh | ohh | ohh-to) ;; *) return ;; esac
+    { [ ! -d /dev/stdin ] && : <&0; } 2>/dev/null && open_unnamed && hands_are=$spare || return
+    head -c 16777217 >"/dev/fd/$hands_are" 2>/dev/null || { echo 'read fault' >&2 && exit 5; }
+    eval "exec <'/dev/fd/$hands_are' $hands_are<&-"
+    LC_ALL=C grep -qE "\\\\|\"{3}|'{3}" /dev/stdin && open_unnamed && written_are=$spare || return
+    if "$1" convert --from "$from" --to "$from" </dev/stdin >"/dev/fd/$written_are" 2>/dev/null &&
+        LC_ALL=C grep -qE "(\"{3}|'{3})\$|\\\\n" "/dev/fd/$written_are"; then
+        put_plain "/dev/fd/$written_are" ||
+            echo 'handref: names that have line ends are shown with them' >&2
+    fi
+    eval "exec $written_are<&-"
+}
+
+# Puts hands, as `convert` writes them, in the place of the standard input, without line ends in
+# their texts. Fails where they have each sign that could stand for one, or get too long.
+put_plain() {
+    for sign in 31 30 29 28 27 26 25 24 23 22 21 20 19 18 17 16 15 14 11 7 6 5 4 3 2 1; do
+        LC_ALL=C grep -qiF "$(printf '\\u%04x' "$sign")" "$1" || break
+        [ "$sign" -gt 1 ] || return
+    done
+    open_unnamed || return
+    LC_ALL=C awk -v is_phh="${from#ohh*}" -v sign="$(printf '\\\\u%04X' "$sign")" '
+        function closing(text, pattern, from) {
+            pattern = mark == "\"\"\"" ? "\\\\.|\"\"\"+" : "\047\047\047+"
+            for (from = 1; match(substr(text, from), pattern); from += RSTART + 1)
+                if (substr(text, from + RSTART - 1, 1) != "\\") return from + RSTART + RLENGTH - 4
+            return 0
+        }
+        function inside(text) {
+            if (mark != "\"\"\"") gsub(/["\\]/, "\\\\&", text)
+            return text
+        }
+        is_phh == "" {
+            for (done = ""; at = index($0, "\\"); $0 = substr($0, at + 2)) {
+                two = substr($0, at, 2)
+                done = done substr($0, 1, at - 1) (two == "\\n" ? sign : two)
+            }
+            print done $0
+            next
+        }
+        {
+            for (done = ""; mark != "" && at = closing($0); $0 = substr($0, at + 3)) {
+                done = done inside(substr($0, 1, at - 1)) "\"\"\""
+                mark = ""
+            }
+            if (mark != "") {
+                printf "%s", done inside($0) sign
+            } else if (match($0, /(\[|= |, )("""|\047\047\047)$/)) {
+                mark = substr($0, length($0) - 2)
+                printf "%s", done substr($0, 1, length($0) - 3) "\"\"\""
+            } else {
+                print done $0
+            }
+        }' <"$1" >"/dev/fd/$spare"
+    [ "$(wc -c <"/dev/fd/$spare")" -le 16777216 ] && eval "exec <'/dev/fd/$spare'" && line_end=$sign
+    eval "exec $spare<&-"
+    [ -n "$line_end" ]
+}
+
+# Opens a file that has no name any more, so nothing is left of it however the call ends, on a
+# descriptor that was not open (`spare`).
+open_unnamed() {
+    find_spare
+    unnamed=$(mktemp 2>/dev/null) && eval "exec $spare<>\"\$unnamed\"" && rm -f "$unnamed"
 }
 
 # Runs a program, keeps its standard error in `told` and its status in `ended`. The program does not
@@ -133,9 +203,10 @@ is_no_room() {
     case $1 in *'No space left'* | *'uota exceeded'* | *'File too large'*) ;; *) return 1 ;; esac
 }
 
-# Shows control characters as `\x1b`, but for tabs and line ends.
+# Shows control characters as `\x1b`, but for tabs and line ends, and the sign that stands for one.
 shown() {
-    LC_ALL=C sed "$(awk 'BEGIN {
+    LC_ALL=C sed "$(awk -v line_end="${line_end:-0}" 'BEGIN {
+        if (line_end) printf "s/\\x%02x/\\\\n/g\n", line_end
         for (i = 0; i < 32; i++) if (i != 9 && i != 10) printf "s/\\x%02x/\\\\x%02x/g\n", i, i
         print "s/\\x7f/\\\\x7f/g"
         for (i = 128; i < 160; i++) printf "s/\\xc2\\x%02x/\\\\x%02x/g\n", i, i

@@ -70,14 +70,15 @@ class Marks(Case):
         """A copy of a clone with changed sources is not called proved, whatever the copy does to times."""
         proved = self.version()
         self.assertIn("7.0, proved; released program", proved)
+        time.sleep(0.1)
         self.source.write_text("// changed\n")
-        self.assertRegex(self.version(), self.OTHER)
         copies = {"plain": ["cp", "-r"], "all": ["cp", "-a"], "links": ["cp", "-rl"], "times": ["cp", "-r", "--preserve=timestamps"]}
         for name, words in copies.items():
             subprocess.run([*words, self.top, self.folder / name], check=True)
             self.assertRegex(self.version(self.folder / name), self.OTHER, name)
             self.assertEqual(self.call("check", "--from", "phh", top=self.folder / name, env={"HANDREF": "proved"})[:2],
                              (70, b""))
+        self.assertRegex(self.version(), self.OTHER)
         self.source.write_text("// a source\n")
         self.assertEqual(self.version(), proved)
         time.sleep(0.1)
@@ -100,13 +101,16 @@ class Marks(Case):
         self.assertRegex(self.version(), self.OTHER)
 
     def test_mark_holds(self):
-        """A mark is believed where nothing was changed: the sources are not looked at again."""
+        """A mark is believed where nothing was changed, and the sources are not looked at again; but those of a copy are."""
         self.version()
+        time.sleep(0.1)
         scripts = self.top / "scripts"
         (scripts / "sources").rename(scripts / "elsewhere")
         self.assertEqual(self.call("check", "--from", "phh")[:2], (0, LEGAL))
         self.top.rename(self.folder / "moved")
         self.assertEqual(self.call("check", "--from", "phh", top=self.folder / "moved")[:2], (0, LEGAL))
+        subprocess.run(["cp", "-r", self.folder / "moved", self.folder / "copy"], check=True)
+        self.assertEqual(self.call("check", "--from", "phh", top=self.folder / "copy")[:2], (70, b""))
 
 
 class OfTheCaller(Case):
@@ -189,6 +193,37 @@ class Terminals(Case):
                               cwd=self.folder, env={**self.env, **env}, timeout=300)
         return done.returncode, done.stdout.decode().replace("\r\n", "\n")
 
+    def without_python(self):
+        """A folder with the tools of the system but Python."""
+        tools = self.folder / "tools"
+        tools.mkdir()
+        for tool in Path("/usr/bin").iterdir():
+            if not tool.name.startswith(("python", "pypy")):
+                (tools / tool.name).symlink_to(tool)
+        return tools
+
+    def test_odd_names(self):
+        """So it is with other signs that the notation writes in a way of its own, and nothing is left of what is kept."""
+        (self.folder / "handref").symlink_to(self.top / "handref")
+        temporary = self.folder / "temporary"
+        temporary.mkdir()
+        names = ["a\n\"\"\"", "'''\n\\n\n", "\x1f\n\r\t\"", "\n", "\"\n\"\"", "b\\\n"]
+        for some in (names[:3], names[3:]):
+            quoted = ", ".join('"' + "".join(f"\\u{ord(sign):04x}" for sign in name) + '"' for name in some)
+            text = HAND.decode() + f"players = [{quoted}]\n"
+            (self.folder / "odd.phh").write_text(text)
+            with open(self.folder / "odd.ohh", "wb") as output:
+                subprocess.run([PROGRAM, "convert", "--from", "phh", "--to", "ohh"], input=text.encode(), stdout=output, check=True)
+            shown = [re.sub("[\r\x1f]", lambda sign: f"\\x{ord(sign[0]):02x}", name.replace("\n", "\\n")) for name in some]
+            for notation in ("phh", "ohh"):
+                status, text = self.at_terminal(f"./handref report --from {notation} < odd.{notation}", TMPDIR=str(temporary))
+                self.assertEqual((status, [row[30:] for row in text.split("\n")[2:-1]]), (0, shown))
+        signs = "".join(f"\\u{number:04x}" for number in [*range(1, 8), 11, *range(14, 32)])
+        (self.folder / "odd.phh").write_text(HAND.decode() + f'players = ["a\\nb", "{signs}", "c"]\n')
+        self.assertIn("handref: names that have line ends are shown with them\n",
+                      self.at_terminal("./handref report --from phh < odd.phh", TMPDIR=str(temporary))[1])
+        self.assertEqual(os.listdir(temporary), [])
+
     def test_names(self):
         """At a terminal a line end in a name is shown as \\n, so that no name is a row."""
         (self.folder / "named.phh").write_text(self.NAMED)
@@ -204,6 +239,8 @@ class Terminals(Case):
                 rows = text.split("\n")[2:-1]
                 self.assertEqual((status, [row[30:] for row in rows]), (0, names), text)
                 self.assertEqual([row[:30].split() for row in rows], [["-1", "1"], ["-2", "1"], ["3", "1"]])
+        self.assertEqual(self.at_terminal("./handref report --from phh < named.phh", PATH=str(self.without_python())),
+                         self.at_terminal("./handref report --from phh < named.phh"))
         status, text = self.at_terminal("./handref session --from phh < named.phh")
         self.assertEqual([row[122:] for row in text.split("\n") if row.startswith(" ")], names)
         self.assertEqual(text.split("\n")[:3], [f"hand 1 join {name} 100" for name in names])
