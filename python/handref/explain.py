@@ -20,7 +20,8 @@ from handref import Game, HandrefError, Hands, Notation, Piece, faults, phhs, pl
 from handref.explanation import (Explanation, is_printed, of, of_line, of_piece, printed,
                                  status_of)
 from handref.progress import Progress
-from handref.sources import NO_GAME, Region, Source, regions, sources, with_games
+from handref.sources import (CHANGED, NO_GAME, Region, Source, of_path, regions, sources,
+                             unchanged, with_games)
 from handref.texts import counted, shown
 
 __all__ = ["Explanation", "each", "explain", "is_printed", "of_file", "of_line", "printed"]
@@ -32,8 +33,7 @@ def explain(hands: Hands, notation: Notation, game: Game = None,
             line: Optional[str] = None) -> Explanation:
     """Explains a line about a file of any length, or the first fault of the file."""
     if not isinstance(hands, bytes):
-        source = Source(os.fspath(hands), notation, os.path.getsize(hands), 0)
-        return of_file(source, game, line)
+        return of_file(of_path(hands, notation), game, line)
     with tempfile.NamedTemporaryFile(prefix="handref-") as file:
         file.write(hands)
         file.flush()
@@ -52,7 +52,14 @@ def each(found: Sequence[Source], game: Game = None,
 
 def of_file(source: Source, game: Game = None, line: Optional[str] = None,
             bar: Optional[Progress] = None) -> Explanation:
-    """The same of a file, or what a line means that was printed about it."""
+    """The same of a file, or what a line means that was printed about it. OSError: it was changed
+    while it was read."""
+    with unchanged(source):
+        return _of_file(source, game, line, bar)
+
+
+def _of_file(source: Source, game: Game, line: Optional[str],
+             bar: Optional[Progress]) -> Explanation:
     name = source.name or source.path
     game = game if source.notation == "acpc" else None
     fault = source.fault or (NO_GAME if source.notation == "acpc" and not game else "")
@@ -214,14 +221,15 @@ def _with_hand(source: Source, hand: Optional[int], line: Optional[int]) -> Opti
 
 
 def run(paths: Sequence[str], notation: Optional[Notation], game: Game,
-        line: Optional[str] = None) -> None:
-    """Explains files and folders, or a line about a file, on standard output. ValueError: as
-    `found`, or a line is about one file. OSError: the only file cannot be read."""
+        line: Optional[str] = None) -> int:
+    """Explains files and folders, or a line about a file, on standard output; 5 if one of several
+    files was changed while it was read, and else 0. ValueError: as `found`, or a line is about one
+    file. OSError: the only file cannot be read, or was changed."""
     listed, others = found(paths, notation, game)
     if line is not None and len(listed) != 1:
         raise ValueError("a line is explained of one file")
     bar = Progress(sum(source.size for source in listed), sys.stderr)
-    wrong = 0
+    wrong = status = 0
     meanings: set[str] = set()  # what a reason means is said once
     for source in listed:
         try:
@@ -232,6 +240,7 @@ def run(paths: Sequence[str], notation: Optional[Notation], game: Game,
             explained = _not_explained(source, fault)
         bar.clear()
         wrong += bool(explained.line)
+        status = 5 if explained.line == CHANGED else status
         explained.meaning = "" if explained.meaning in meanings else explained.meaning
         meanings.add(explained.meaning)
         if len(listed) == 1 or explained.line:
@@ -241,6 +250,7 @@ def run(paths: Sequence[str], notation: Optional[Notation], game: Game,
               f"{len(listed) - wrong} without")
     for why, count in sorted(others.items()):
         print(f"{counted(count, 'file')}: {shown(why)}")
+    return status
 
 
 def found(paths: Sequence[str], notation: Optional[Notation],

@@ -1,5 +1,5 @@
 """What the notations are called, the ends of the names of their files, the games, and the keys of
-PHH."""
+PHH and OHH."""
 import re
 from typing import Optional
 
@@ -25,6 +25,18 @@ PHH_KEYS: tuple[str, ...] = (
 PHH_NOTES: tuple[str, ...] = PHH_KEYS[PHH_KEYS.index("players"):]
 PHH_AMOUNTS = ("bring_in", "small_bet", "big_bet", "min_bet")
 PHH_AMOUNT_LISTS = ("starting_stacks", "antes", "blinds_or_straddles", "finishing_stacks", "_rakes")
+
+PHH_NAMES = "players"  # the key of the names of the players
+# Of OHH: the members of `ohh` that say the same as a key of PHH, and that of a player with its name.
+OHH_NOTES = {"venue": "site_name", "hand": "game_number", "table": "table_name",
+             "seat_count": "table_size", "seats": "players", "players": "players",
+             "currency": "currency"}
+OHH_PLAYERS, OHH_NAME = "players", "name"
+# The keys of PHH and the members of OHH that a fact without a spelling comes from.
+FACT_KEYS = {"Variant": ("variant", "game_type"), "SeatCount": ("starting_stacks", "players"),
+             "Stacks": ("starting_stacks", "players"), "BetSizes": ("min_bet", "bet_limit"),
+             "Antes": ("antes", "ante_amount"), "Rake": ("_rakes", "pots"),
+             "Blinds": ("blinds_or_straddles", "small_blind_amount")}
 
 
 def notation_of(path: str) -> Optional[handref.Notation]:

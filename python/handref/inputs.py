@@ -24,6 +24,7 @@ class Input:
     data: bytes
     notation: Notation
     game: Game = None
+    source: Optional[sources.Source] = None
     file: Optional[str] = None
     hands_before: int = 0
     lines_before: int = 0
@@ -47,6 +48,8 @@ def each(hands: Anything, notation: Optional[Notation], game: Game,
         try:
             made = make(own.data, own.notation, own.game)
         except HandrefError as error:
+            if own.source:
+                sources.refuse_changed(own.source)
             whole = handref.whole(error, Piece(own.data, own.notation, 0, own.hands_before,
                                                own.lines_before))
             raise replace(whole, file=error.file or own.file) from error
@@ -64,7 +67,7 @@ def _inputs(hands: Anything, notation: Optional[Notation], game: Game) -> Iterat
     paths = [hands] if isinstance(hands, (str, os.PathLike)) else hands
     for path in map(os.fspath, paths):
         if path != "-" and _is_device(path):
-            yield Input(handref.read(path), _known(notation), game, path)
+            yield Input(handref.read(path), _known(notation), game, file=path)
             continue
         for source in sources.sources([path], notation)[0]:
             yield from _of_source(source, game)
@@ -79,9 +82,11 @@ def _of_source(source: sources.Source, game: Game) -> Iterator[Input]:
         game = game or sources.game_beside(source)
         if not game:
             raise ValueError(f"{source.shown}: {sources.NO_GAME}")
-    for region in sources.regions(source):
-        yield Input(region.data(), source.notation, game if source.notation == "acpc" else None,
-                    name, min(region.number, 1))
+    with sources.unchanged(source):
+        for region in sources.regions(source):
+            yield Input(region.data(), source.notation,
+                        game if source.notation == "acpc" else None, source, name,
+                        min(region.number, 1))
 
 
 def _is_device(path: str) -> bool:

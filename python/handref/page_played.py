@@ -8,6 +8,7 @@ from typing import Any, Callable, Iterable, Optional, Sequence, TypeVar, Union
 
 import handref
 from handref import Game, HandrefError, UnclearOutput, toml
+from handref.formats import OHH_NOTES
 from handref.single_hands import together
 from handref.texts import shown
 from handref.places import seats_of
@@ -192,9 +193,8 @@ def _note_of_ohh(data: bytes) -> dict[str, Any]:
         for said in hand["rounds"][0]["actions"]:
             if said["action"] == "Post Ante":
                 antes[seats.index(said["player_id"])] = int(said["amount"])
-        found = {key: hand[name] for key, name in (
-            ("hand", "game_number"), ("table", "table_name"), ("venue", "site_name"),
-            ("currency", "currency")) if hand.get(name)}
+        found = {key: hand[OHH_NOTES[key]] for key in ("hand", "table", "venue", "currency")
+                 if hand.get(OHH_NOTES[key])}
         moment = re.match(r"(\d+)-(\d+)-(\d+)[T ]([\d:.]+)", str(hand.get("start_date_utc")))
         for key, part in zip(("year", "month", "day"), moment.groups() if moment else ()):
             found[key] = int(part)

@@ -212,7 +212,7 @@ def tables(file: IO[bytes]) -> Iterator[bytes]:
     if os.fstat(file.fileno()).st_size > handref.MOST_BYTES and _ascends(file):
         yield from _in_parts(file)
         return
-    with _own_map(file) as data:
+    with own_map(file) as data:
         hands = Hands(data)
         for place in range(len(hands)):
             start, end = hands.span(place)
@@ -269,7 +269,7 @@ def _in_parts(file: IO[bytes]) -> Iterator[bytes]:
 
 
 @contextmanager
-def _own_map(file: IO[bytes]) -> Iterator[Bytes]:
+def own_map(file: IO[bytes]) -> Iterator[Bytes]:
     """The bytes of a file; of a long one those of a copy that nobody else can cut short meanwhile."""
     file.seek(0)
     if os.fstat(file.fileno()).st_size <= handref.MOST_BYTES:

@@ -11,6 +11,7 @@ from typing import Any, Optional, Union
 
 import handref
 from handref import HandrefError, single_hands, toml
+from handref.formats import FACT_KEYS, OHH_NOTES
 
 Path = tuple[Union[str, int], ...]
 
@@ -64,16 +65,6 @@ def of_byte(text: str, line: int, byte: int) -> Spot:
     return spot(text, start + column, start + column + 1)
 
 
-# The keys of PHH and the members of OHH that a fact without a spelling comes from.
-_FACTS = {"Variant": ("variant", "game_type"), "SeatCount": ("starting_stacks", "players"),
-          "Stacks": ("starting_stacks", "players"), "BetSizes": ("min_bet", "bet_limit"),
-          "Antes": ("antes", "ante_amount"), "Rake": ("_rakes", "pots"),
-          "Blinds": ("blinds_or_straddles", "small_blind_amount")}
-_NOTES = {"venue": "site_name", "hand": "game_number", "table": "table_name",
-          "seat_count": "table_size", "seats": "players", "players": "players",
-          "currency": "currency"}
-
-
 # Poker Hand History.
 
 def table_of(text: str, hand: int) -> tuple[Optional[str], dict[str, Any]]:
@@ -116,7 +107,7 @@ def _path_of_phh(error: HandrefError) -> Path:
             return ("actions",)
         return (key, int(number.lstrip("p")) - 1)
     if error.status == 4:
-        return (_FACTS.get(error.reason or "", (error.note or "actions", ""))[0],)
+        return (FACT_KEYS.get(error.reason or "", (error.note or "actions", ""))[0],)
     if number:
         return (kind, int(number) - 1)
     return (kind,)
@@ -169,8 +160,8 @@ def _path_of_ohh(error: HandrefError, hand: dict[str, Any]) -> Path:
             return ("ohh", "pots", int(number) - 1, "rake")
         return _path_of_win(hand["ohh"], int(number[1:])) if kind == "win" else ("ohh", "pots")
     if error.status == 4:
-        note = _NOTES.get(error.note or "", "rounds")
-        return ("ohh", _FACTS.get(error.reason or "", ("", note))[1])
+        note = OHH_NOTES.get(error.note or "", "rounds")
+        return ("ohh", FACT_KEYS.get(error.reason or "", ("", note))[1])
     steps = re.findall(r"([^.\[\]]+)|\[(\d+)\]", error.place or "")
     return tuple(int(item) if item else key for key, item in steps)
 

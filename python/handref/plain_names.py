@@ -3,6 +3,7 @@ import json
 from typing import Any
 
 from handref import Notation, single_hands, toml
+from handref.formats import OHH_NAME, OHH_PLAYERS, PHH_NAMES
 
 
 def renamed(text: bytes, notation: Notation) -> tuple[bytes, dict[str, str]]:
@@ -37,8 +38,8 @@ def _phh(text: bytes, word_of: Any) -> bytes:
                                                        sorted(document, key=int)]
     found = []
     for number, table in enumerate(tables, 1):
-        if "players" in table:
-            table["players"] = [word_of(name) for name in table["players"]]
+        if PHH_NAMES in table:
+            table[PHH_NAMES] = [word_of(name) for name in table[PHH_NAMES]]
         head = f"[{number}]\n" if len(tables) > 1 else ""
         found.append(head.encode() + single_hands.document(table))
     return b"".join(found)
@@ -49,8 +50,8 @@ def _ohh(text: bytes, word_of: Any) -> bytes:
     for line in text.split(b"\n"):
         if line:
             hand = json.loads(line)
-            for player in hand["ohh"]["players"]:
-                if "name" in player:
-                    player["name"] = word_of(player["name"])
+            for player in hand["ohh"][OHH_PLAYERS]:
+                if OHH_NAME in player:
+                    player[OHH_NAME] = word_of(player[OHH_NAME])
             found.append(json.dumps(hand, ensure_ascii=False).encode() + b"\n")
     return b"\n".join(found)

@@ -7,6 +7,7 @@ import sys
 import tempfile
 import zlib
 from collections import Counter
+from contextlib import contextmanager
 from dataclasses import dataclass, field, replace
 from functools import cached_property
 from typing import IO, BinaryIO, Callable, Iterator, Optional, Sequence, Union
@@ -78,6 +79,34 @@ class Region:
         with open(self.source.path, "rb") as file:
             file.seek(self.start)
             return file.read(min(self.size, handref.MOST_BYTES + 1))
+
+
+CHANGED = "it was changed while it was read"
+
+
+def refuse_changed(*found: Source) -> None:
+    """OSError: others have written to one of these files, or put another in its place."""
+    for source in found:
+        if source.is_changed():
+            raise OSError(0, CHANGED, source.name or source.path)
+
+
+@contextmanager
+def unchanged(*found: Source) -> Iterator[None]:
+    """Reads files. OSError: one was changed meanwhile, and what was read of it is nothing; nor is
+    what was wrong with it."""
+    try:
+        yield
+    except Exception:
+        refuse_changed(*found)
+        raise
+    refuse_changed(*found)
+
+
+def of_path(path: handref.Path, notation: Notation) -> Source:
+    """A file that is in this notation, whatever its name says."""
+    path = os.fspath(path)
+    return _found(path, notation, os.stat(path), os.path.basename(path))
 
 
 def natural(text: str) -> list[tuple[int, int, str]]:
@@ -203,7 +232,8 @@ def below(top: str, fault: Callable[[OSError], None]) -> Iterator[str]:
 
 
 def _found(path: str, notation: Notation, info: os.stat_result, out: str) -> Source:
-    return Source(path, notation, info.st_size, info.st_mtime_ns, out, inode=info.st_ino)
+    inode = info.st_ino if stat.S_ISREG(info.st_mode) else 0
+    return Source(path, notation, info.st_size, info.st_mtime_ns, out, inode=inode)
 
 
 def _faulty(path: str, notation: Notation, out: str, fault: str) -> Source:

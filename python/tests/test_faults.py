@@ -14,7 +14,8 @@ from unittest import mock
 
 HERE = Path(__file__).resolve().parent
 sys.path.insert(0, str(HERE.parent))
-from handref import phhs, toml  # noqa: E402
+import handref  # noqa: E402
+from handref import explain, page, phhs, sources, toml  # noqa: E402
 
 EXAMPLES = next(path for path in (HERE.parents[1] / "tests" / "examples", HERE.parents[1] / "examples") if path.exists())
 MATCH = str(EXAMPLES / "match.game")
@@ -190,7 +191,7 @@ class Written(Case):
         self.stub(f"printf x >> '{calls}'; [ \"$(cat '{calls}')\" != xxx ] || {move}\nexec \"$handref\" \"$@\"")
         words = {"convert": ("--to", "ohh", "--out", "../out.ohh")}.get(task, ())
         game = ("--game", MATCH) if name.endswith("acpc") else ()
-        done = self.call("many", task, "-j", "1", *words, *game, name, first="sources.PIECE = 300")
+        done = self.call("many", task, "-j", "1", "--time", "1000", *words, *game, name, first="sources.PIECE = 300")
         self.assertGreaterEqual(len(calls.read_text()), 3)
         self.assertFalse((self.folder.parent / "out.ohh").exists())
         return done
@@ -220,6 +221,55 @@ class Written(Case):
         log = "".join(LINE % (number, "Ann|Bob") for number in range(200))
         move = "{{ cp -p '{0}' '{0}.new'; mv '{0}.new' '{0}'; }}"
         self.assertEqual(self.changed("log.acpc", log, move, "convert"), (5, "", f"log.acpc: {self.SAID}\n"))
+
+    COMMANDS = (("explain", "{}"), ("explain", "{}", "other.phh"), ("page", "{}", "../out.html"),
+                ("page", "{}", "other.phh", "../out.html"), ("import", "--out", "../out", "{}"),
+                ("import", "--out", "../out", "{}", "other.phh"))
+
+    def test_commands(self):
+        """Each command says so of a file that is read, in one call of the program or in several, and writes nothing of it."""
+        self.hands("other.phh")
+        log = "".join(LINE % (number, "Ann|Bob") for number in range(60))
+        shutil.copy(MATCH, self.folder / "log.game")
+        (self.folder.parent / "new").write_text(log.replace("Ann|Bob", "Eve|Dan"))
+        changes = (f"cat '{self.folder.parent}/new' > '{{0}}'", ": > '{0}'", "echo >> '{0}'", "rm '{0}'",
+                   "{{ cp -p '{0}' '{0}.new'; mv '{0}.new' '{0}'; }}")
+        ohh = subprocess.run([PROGRAM, "convert", "--from", "phh", "--to", "ohh"], input=HAND, capture_output=True, text=True)
+        for name, text in (("log.acpc", log), ("a.phh", HAND), ("a.ohh", ohh.stdout)):
+            for place, words in enumerate(self.COMMANDS):
+                change = changes[(place + len(name)) % len(changes)]
+                with self.subTest(name=name, words=words, change=change):
+                    path = self.folder / name
+                    path.write_text(text)
+                    os.utime(path, (10 ** 9, 10 ** 9))
+                    done = self.folder.parent / f"{name}.{place}"
+                    self.stub(f"[ -e '{done}' ] || {{ : > '{done}'; {change.format(path)}; }}\n"
+                              "exec \"$handref\" \"$@\"")
+                    status, said, told = self.call(*(word.format(name) for word in words), first="sources.PIECE = 300")
+                    self.assertEqual((status, (said + told).count(f"{name}: {self.SAID}\n")), (5, 1), said + told)
+                    self.assertNotIn("bug of handref", said + told)
+                    made = [each.name for each in self.folder.parent.glob("out*/*")] + [
+                        each.name for each in self.folder.parent.glob("out.html")]
+                    self.assertLessEqual(set(made), {".handref-import", "other.phh"})
+                    shutil.rmtree(self.folder.parent / "out", ignore_errors=True)
+
+    def test_package(self):
+        """The functions of the package raise it."""
+        log = "".join(LINE % (number, "Ann|Bob") for number in range(60))
+        path = self.folder / "log.acpc"
+        calls = {"rows": lambda: list(handref.rows("check", str(path), game=MATCH)),
+                 "check": lambda: handref.check([str(path)], game=MATCH),
+                 "explain": lambda: explain.explain(str(path), "acpc", MATCH),
+                 "page": lambda: page.page(str(path), "acpc", MATCH)}
+        for change in ("echo >> '{0}'", ": > '{0}'"):
+            for name, call in calls.items():
+                with self.subTest(name=name, change=change), mock.patch.object(sources, "PIECE", 300):
+                    path.write_text(log)
+                    os.utime(path, (10 ** 9, 10 ** 9))
+                    self.stub(f"{change.format(path)}\nexec \"$handref\" \"$@\"")
+                    with mock.patch.dict(os.environ, self.env), self.assertRaises(OSError) as raised:
+                        call()
+                    self.assertEqual((raised.exception.strerror, raised.exception.filename), (self.SAID, str(path)))
 
     def test_no_map_of_files_of_others(self):
         """A long document is read, and not mapped, since one that is cut short would end the process."""

@@ -1,4 +1,5 @@
 """Tries `handref import` on files as their producers write them, as it is called by a user."""
+import datetime
 import gzip
 import hashlib
 import json
@@ -459,6 +460,8 @@ class Texts(Case):
                 ("*** FLOP *** [2c 7d 9h]", "*** FIRST FLOP *** [2c 7d 9h]", "run several times"),
                 ("y leaves the table", "y cashed out the hand for $1.20 | Cash Out Fee $0.01",
                  "a cash-out"),
+                ("and won ($0.96) with", "and won ($0.96) with luck, as it is (pot not awarded as player cashed out)",
+                 "a cash-out"),
                 ("y leaves the table", "y does something new", "a line that is not known"),
                 ("(x): posts big blind $0.05", "(x): posts big blind $0.05\ny: posts big blind $0.05",
                  "a late post"),
@@ -467,6 +470,37 @@ class Texts(Case):
                 ("Hold'em No Limit ($0.02/$0.05)", "6+ Hold'em No Limit ($0.02/$0.05)",
                  "a game that handref does not have"),
                 ("shows [9c 9d] (three", "shows [9c Kc] (three", "cards of a player that differ")))
+
+    def test_other_forms(self):
+        """The same hand where a site has written it at another time or for another kind of table."""
+        moment = "2024/01/12 20:14:55 ET"
+        rows = (
+            ("pokerstars.txt", moment, "2024/01/12 - 20:14:55 (ET)", {}),
+            ("pokerstars.txt", moment, "2024/01/12 20:14:55 (ET)", {}),
+            ("pokerstars.txt", moment, "2024/01/13 2:14:55 CET [2024/01/12 20:14:55 ET]",
+             {"day": 13, "time": datetime.time(2, 14, 55), "time_zone": "CET"}),
+            ("pokerstars.txt", "' 6-max", "'", {"seat_count": None}),
+            ("pokerstars.txt", "PokerStars Hand", "PokerStars Zoom Hand", {}),
+            ("pokerstars.txt", "PokerStars Hand", "PokerStars Game", {}),
+            ("winamax.txt", "CashGame", 'Go Fast "Colorado"', {}),
+            ("winamax.txt", "CashGame", "Escape", {}),
+            ("winamax.txt", "Total pot 62.45", "Total pot 59.95", {}),
+            ("ggpoker.txt", "Hold'em No Limit ", "PLO ", {"variant": "PO"}))
+        for number, (name, old, new, other) in enumerate(rows):
+            text = (WILD / name).read_text()
+            self.assertIn(old, text)
+            text = text.replace(old, new, 1)
+            self.put(f"wild/{number}.txt", text.replace("[9c 9d]", "[9c 9d 2c 2d]") if "PLO" in new else text)
+        done = user("--out", self.out, self.folder / "wild")
+        self.assertEqual((done[0], done[2]), (0, ""), done[1])
+        for number, (name, _, new, other) in enumerate(rows):
+            with self.subTest(new):
+                found = toml.read((self.out / f"{number}.phhs").read_text())["1"]
+                wanted = {**self.tables(name)[0], **other}
+                if "PLO" in new:
+                    for table in (found, wanted):
+                        table["actions"] = [action for action in table["actions"] if not action.startswith("d dh")]
+                self.assertEqual(found, {key: value for key, value in wanted.items() if value is not None})
 
     def test_chat_is_no_move(self):
         """What a player says is never taken for a move, and a cut text is never a whole one."""

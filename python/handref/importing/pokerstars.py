@@ -8,18 +8,18 @@ from handref.importing.record import LeftOut
 from handref.importing.text import M, SYMBOLS, Reader, Site, named, number
 
 GAMES = {"Hold'em No Limit": "NT", "Hold'em Limit": "FT", "Omaha Pot Limit": "PO", "PLO Pot Limit": "PO",
-         "Omaha Hi/Lo Limit": "FO/8"}
+         "PLO": "PO", "Omaha Hi/Lo Limit": "FO/8"}
 _STAKES = (rf"(?P<symbol>[$€£¥₹]?){named('small')}/{named('big')}(?: - Ante {named('ante')})?"
            r"(?: (?P<currency>[A-Z]{3,4}))?")
 _CASH = re.compile(rf"(?:[^(]* \()?(?P<game>[^(,]+?)(?:,| \() ?{_STAKES}\)")
 _LEVEL = re.compile(rf"Tournament #(?P<tournament>[0-9]+), (?P<game>.*?) ?- (?:Match Round [^,]*, )?"
                     rf"Level ?(?:[IVXLCDM]+|[0-9]+) ?\({_STAKES}(?: ?\({named('level_ante')}\))?\)")
-_WHEN = (r" - (?P<year>[0-9]{4})/(?P<month>[0-9]{2})/(?P<day>[0-9]{2}) (?P<time>[0-9]{1,2}:[0-9]{2}:[0-9]{2})"
-         r"(?: (?P<zone>[A-Z]{2,5}))?(?: \[.*\])?")
+_WHEN = (r" - (?P<year>[0-9]{4})/(?P<month>[0-9]{2})/(?P<day>[0-9]{2}) (?:- )?"
+         r"(?P<time>[0-9]{1,2}:[0-9]{2}:[0-9]{2})(?: (?P<sign>\()?(?P<zone>[A-Z]{2,5})(?(sign)\)))?(?: \[.*\])?")
 _HEAD = re.compile(r"PokerStars (?:[A-Z][A-Za-z]* )*(?:Hand|Game) #(?P<number>[0-9]+): +(?:\{[^}]*\} +)?"
                    r"(?P<game>.*?)" + _WHEN)
 _GG_HEAD = re.compile(r"Poker Hand #(?P<number>[A-Za-z]*[0-9]+): +(?P<game>.*?)" + _WHEN)
-TABLE = re.compile(r"Table '(?P<table>.*)' (?P<seats>[0-9]+)-max(?: \(Play Money\))? "
+TABLE = re.compile(r"Table '(?P<table>.*)'(?: (?P<seats>[0-9]+)-max)?(?: \(Play Money\))? "
                    r"Seat #(?P<button>[0-9]+) is the button")
 SEAT = re.compile(rf"Seat (?P<seat>[0-9]+): (?P<name>.+) \({named('stack')} in chips"
                   rf"(?:, {M} bounty)?\)(?: is sitting out| out of hand \(.*\))?")

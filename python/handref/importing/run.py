@@ -10,7 +10,7 @@ from dataclasses import dataclass, field, replace
 from typing import Any, Callable, Deque, Iterator, Optional, Sequence, TextIO
 
 import handref
-from handref import faults
+from handref import faults, sources
 from handref.importing import amounts, games, report, taking, wild, work
 from handref.importing.made import OutFolder
 from handref.importing.record import LeftOut
@@ -103,6 +103,13 @@ def each(found: Sequence[wild.Wild], running: Running) -> Iterator[Imported]:
 
 def _first(waiting: "Deque[tuple[wild.Wild, Optional[Future[Any]]]]", running: Running) -> Imported:
     one, future = waiting.popleft()
+    imported = _tried(one, future, running)
+    if one.is_changed():  # whatever was read of it is no file
+        return Imported(one, fault=LeftOut(sources.CHANGED), status=5)
+    return imported
+
+
+def _tried(one: wild.Wild, future: "Optional[Future[Any]]", running: Running) -> Imported:
     try:
         if one.fault:
             raise LeftOut(one.fault)

@@ -35,6 +35,7 @@ class Site:
     is_collected: "re.Pattern[str]" = re.compile(
         rf"(.+?) collected {M} from (?:the )?((?:main |side )?pot(?:[ -]?[0-9]+)?)")
     ignored: "Sequence[re.Pattern[str]]" = ()
+    may_be_net: bool = False  # whether the total pot of the summary may be what was collected
 
 
 @dataclass
@@ -165,7 +166,7 @@ CAUSES = [(re.compile(pattern), cause) for pattern, cause in (
     (r".*\bposts small & big blinds? .*|.*\bposts (?:a )?dead\b.*|.*\bposts (?:the )?missed\b.*",
      "a dead blind"),
     (r".*\bposts .*", "a post that is not known"),
-    (r".*\b(?:cash(?:ed|es)? ?out|Cashout|Cash Out)\b.*", "a cash-out"),
+    (r".*\b(?:cash(?:ed|es)? ?out|Cashout|Cash Out)\b.*|.*\bpot not awarded\b.*", "a cash-out"),
     (r".*\b[Ii]nsurance\b.*", "insurance"), (r".* has reached the .* cap", "a betting cap"))]
 # What says nothing of the play.
 IGNORED = [re.compile(pattern) for pattern in (
@@ -186,7 +187,7 @@ _TAKEN = re.compile(rf"(?:Rake|Jackpot|Jackpot [Ff]ee|Bingo|Fortune|Tax|Splash|F
 _PLACES = r"(?: \((?:button|small blind|big blind)\))*"
 _ENDS = [(re.compile(pattern), does) for pattern, does in (
     (r"folded (before Flop|on the Flop|on the Turn|on the River)(?: \(didn't bet\))?", "folded"),
-    (rf"showed {CARDS} and won \(?{M}\)?(?: with .*)?", "won"),
+    (rf"showed {CARDS} and won \(?{M}\)?(?: with (?:(?!pot not awarded).)*)?", "won"),
     (rf"showed {CARDS} and lost(?: with .*)?", "lost"), (rf"showed {CARDS}", "lost"),
     (rf"mucked(?: {CARDS})?", "mucked"), (rf"(?:collected|won) \(?{M}\)?", "collected"),
     (r"didn't bet|is sitting out|sitting out", "nothing"))]
@@ -415,13 +416,15 @@ def _end(reader: Reader) -> play.Play:
     for seat, chips in own.antes.items():
         if chips != ante and chips != own.players[seat].stack:
             raise LeftOut("antes of different sizes", f"{own.players[seat].name}: {chips} and not {ante}")
+    collected = sum(own.won.values(), 0)
+    if reader.site.may_be_net and collected == reader.total:
+        reader.total += reader.taken
     is_said = bool(own.back)
     extra = own.give_back(reader.total)
     if extra and not is_said:
         if not reader.rules.has("returned-bet"):
             raise LeftOut("a bet that is not said to come back", str(extra))
         hand.change("returned-bet", f"{extra} that nobody called, and that is not in the pot: returned")
-    collected = sum(own.won.values(), 0)
     if collected + reader.taken != reader.total:
         raise LeftOut("a pot that is not what was collected and the rake",
                       f"{collected} and {reader.taken} of {reader.total}")

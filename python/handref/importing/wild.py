@@ -32,6 +32,7 @@ class Wild:
     out: str
     size: int = 0
     fault: str = ""
+    stamp: tuple[int, ...] = ()  # of a file that others can write: size, time, inode
     folder: str = ""  # where it was found, for game files beside it
     game: str = ""  # the game file of a log
     game_said: str = ""  # how it was found, where that has to be said
@@ -41,10 +42,21 @@ class Wild:
         """Its name on a line."""
         return texts.shown(self.name)
 
+    def is_changed(self) -> bool:
+        """Whether others have written to the file, or put another in its place, since it was found."""
+        try:
+            return bool(self.stamp) and self.stamp != _stamp(os.stat(self.name))
+        except OSError:
+            return True
+
     @property
     def stem(self) -> str:
         """Its name without the end, below OUT."""
         return re.sub(r"(\.[^./]+)?(\.gz)?\Z", "", self.out, count=1)
+
+
+def _stamp(info: os.stat_result) -> tuple[int, ...]:
+    return info.st_size, info.st_mtime_ns, info.st_ino
 
 
 def kind_of(path: str, front: bytes) -> str:
@@ -100,7 +112,8 @@ def _inside(top: str, folder: str, kind: Optional[str], passed: str) -> list[Wil
 
 def _one(path: str, out: str, folder: str, kind: Optional[str], is_named: bool = False) -> Wild:
     try:
-        if not stat.S_ISREG(os.stat(path).st_mode):
+        info = os.stat(path)
+        if not stat.S_ISREG(info.st_mode):
             return Wild(path, "", path, out, fault="it is not a file")
         plain = _unpacked(path, folder) if path.endswith(".gz") else path
         with open(plain, "rb") as file:
@@ -111,7 +124,7 @@ def _one(path: str, out: str, folder: str, kind: Optional[str], is_named: bool =
     if kind and (is_named and own != "text" or kind[:3] == own[:3]):
         own = kind  # --from says which dialect the files of OHH are in, and what a named file is
     return Wild(plain, own, path, out,
-                os.path.getsize(plain), folder=os.path.dirname(path) or ".")
+                os.path.getsize(plain), stamp=_stamp(info), folder=os.path.dirname(path) or ".")
 
 
 def _unpacked(path: str, folder: str) -> str:

@@ -8,7 +8,8 @@ from handref.importing.text import M, Reader, Site, named, number
 
 GAMES = {"Holdem no limit": "NT", "Omaha pot limit": "PO", "Holdem limit": "FT"}
 _HEAD = re.compile(
-    r"Winamax Poker - (?P<kind>CashGame|Go Fast|Escape|Tournament .*?|Expresso.*?) - HandId: "
+    r"Winamax Poker - (?P<kind>CashGame|(?:Go Fast|Escape)(?: \".*?\")?|Tournament .*?|Expresso.*?) - "
+    r"HandId: "
     r"#(?P<number>[0-9-]+) - (?P<game>[^(]+) \((?P<stakes>[^)]*)\) - (?P<year>[0-9]{4})/(?P<month>[0-9]{2})/"
     r"(?P<day>[0-9]{2}) (?P<time>[0-9]{2}:[0-9]{2}:[0-9]{2}) (?P<zone>UTC)")
 _TABLE = re.compile(r"Table: '(?P<table>.*)' (?P<seats>[0-9]+)-max \((?:real|play) money\) "
@@ -37,4 +38,4 @@ def _head(reader: Reader, line: str) -> None:
         time_zone="UTC", currency="EUR" if reader.hand.is_money else None)
 
 
-WINAMAX = Site("Winamax", _head, _TABLE, _SEAT, sign=" ")
+WINAMAX = Site("Winamax", _head, _TABLE, _SEAT, sign=" ", may_be_net=True)

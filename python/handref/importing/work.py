@@ -1,11 +1,10 @@
 """What is done with the hands of a file, in processes of their own: reading, and writing."""
-import mmap
 import os
 import pickle
 from dataclasses import dataclass, field
 from typing import Callable, Iterator, Optional, Sequence
 
-from handref import faults
+from handref import faults, phhs
 from handref.importing import amounts, finishing, games, logs, ohh, phh, sites
 from handref.importing.record import Hand, LeftOut, Written
 from handref.importing.rules import Rules
@@ -54,7 +53,7 @@ class Done:
     beside: dict[str, bytes] = field(default_factory=dict)
 
 
-def blocks(wild: Wild, data: phh.phhs.Bytes, call: Call) -> Iterator[tuple[int, int, int]]:
+def blocks(wild: Wild, data: phhs.Bytes, call: Call) -> Iterator[tuple[int, int, int]]:
     """The hands of a file: number, begin and end."""
     if wild.kind in ("ohh", "ohh-to"):
         return ohh.blocks(data, call.rules)
@@ -69,7 +68,7 @@ def pieces(wild: Wild, call: Call) -> Iterator[Piece]:
     """A file in pieces. LeftOut: it cannot be cut at its hands."""
     if not os.path.getsize(wild.path):
         return
-    with open(wild.path, "rb") as file, mmap.mmap(file.fileno(), 0, access=mmap.ACCESS_READ) as data:
+    with open(wild.path, "rb") as file, phhs.own_map(file) as data:
         found: list[tuple[int, int, int, int]] = []
         size, line, place = 0, 1, 0
         for number, start, end in blocks(wild, data, call):
@@ -177,8 +176,7 @@ def ended(wild: Wild, units: amounts.Units, written: list[Written], call: Call) 
     done.site = ", ".join(dict.fromkeys(each.hand.site for each in written if each.hand.site))
     if wild.kind in ("ohh", "ohh-to") and written:
         said = ohh.decide(written, dialect_of(wild, call))
-        with open(wild.path, "rb") as file, mmap.mmap(
-                file.fileno(), 0, access=mmap.ACCESS_READ) as data:
+        with open(wild.path, "rb") as file, phhs.own_map(file) as data:
             done.said += ohh.said_of(data, [each.hand for each in written], call.rules) + said
     if wild.kind == "log" and written:
         _end_log(done, wild, call)
