@@ -384,6 +384,31 @@ class Amounts(Case):
         self.assertIn(":-300|100|100|100:", (self.out / "t.log").read_text())
         self.assertIn("stack = 3000 3000 3000 3000\n", (self.out / "t.game").read_text())
 
+    def test_dealer_output_with_other_lines(self):
+        """Comments between what a dealer sent, and the line of the log after it, make no other hand."""
+        text = (WILD / "dealer-output.txt").read_text()
+        lines = text.split("\n")
+        noted = "\n".join(line + ("\n# a note\n" if line.startswith(("TO", "FROM")) else "") for line in lines)
+        user("--out", self.out, "--game", WILD / "dealer-output.game", WILD / "dealer-output.txt")
+        logged = {line.split(":")[1]: line for line in (self.out / "dealer-output.log").read_text().split("\n")
+                  if line.startswith("STATE")}
+        self.assertEqual(len(logged), 2)
+        both, ends = [], {}
+        for place, line in enumerate(lines):
+            if "MATCHSTATE" in line:
+                ends[line.split(":")[2]] = place
+        for place, line in enumerate(lines):
+            both += [line, *(logged[number] for number, end in ends.items() if end == place)]
+        wrong = re.sub("^STATE:([0-9]+):", r"STATE:\1:f", "\n".join(both), count=1, flags=re.M)
+        for name, data in (("noted", noted), ("both", "\n".join(both)), ("wrong", wrong)):
+            done = user("--out", self.out, "--game", WILD / "dealer-output.game", self.put(f"{name}.txt", data))
+            if name == "wrong":
+                self.assertIn("1 a line of a log that is not what the dealer sent", done[1])
+                continue
+            self.assertIn("2 written, 0 left out; 2 legal", done[1])
+            made = [line for line in (self.out / f"{name}.log").read_text().split("\n") if line.startswith("STATE")]
+            self.assertEqual(made, list(logged.values()))
+
     def test_score(self):
         self.assertIn("wild/wrong-score.log: line 8: SCORE says 20355, due 20350\n",
                       user("--check", "wild/wrong-score.log", folder=HERE)[1])

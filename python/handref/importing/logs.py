@@ -32,28 +32,41 @@ class Line:
 
 def blocks(data: "Union[bytes, mmap.mmap]") -> Iterator[tuple[int, int, int]]:
     """The lines of a log. A line that is no hand has the number 0; the lines of one hand of a
-    dealer's output are one block."""
+    dealer's output are one block, with its line of the log where that follows."""
     start, number, size = 0, 0, len(data)
     open_hand: "Optional[tuple[bytes, int]]" = None  # its number in the log, and where it begins
     last = 0
+    passed: list[tuple[int, int]] = []  # lines after it that say nothing
     while start < size:
         end = data.find(b"\n", start) + 1 or size
         line = data[start:end]
         seen = _SEEN.match(line)
-        if open_hand and (not seen or seen[4] != open_hand[0]):
+        is_passed = not seen and _PASSED.fullmatch(line)
+        own = seen[4] if seen else line[6:].partition(b":")[0] if line.startswith(b"STATE:") else None
+        if open_hand and (own == open_hand[0] or is_passed):
+            if is_passed:
+                passed.append((start, end))
+            else:
+                last, passed = end, []
+            if not seen and not is_passed:  # the line of the log ends the hand
+                yield number, open_hand[1], last
+                open_hand = None
+            start = end
+            continue
+        if open_hand:
             yield number, open_hand[1], last
-            open_hand = None
+            yield from ((0, *place) for place in passed)
+            open_hand, passed = None, []
         if seen:
-            if open_hand is None:
-                number, open_hand = number + 1, (seen[4], start)
-            last = end
+            number, open_hand, last = number + 1, (seen[4], start), end
         else:
-            is_hand = not _PASSED.fullmatch(line) and not line.startswith(b"SCORE:")
+            is_hand = not is_passed and not line.startswith(b"SCORE:")
             number += is_hand
             yield number if is_hand else 0, start, end
         start = end
     if open_hand:
         yield number, open_hand[1], last
+        yield from ((0, *place) for place in passed)
 
 
 # Reading.
@@ -106,7 +119,8 @@ def _need(hand: Hand, value: str) -> None:
 
 def _merge(hand: Hand, data: bytes, rules: Rules, game: games.GameFile) -> None:
     """What the dealer sent of a hand, as one line: the last state, and the cards that any seat saw.
-    The values are filled in later, by the replay."""
+    The values are filled in later, by the replay. Where the line of the log is there too, it is the
+    hand."""
     if not rules.has("dealer-output"):
         raise LeftOut("a line of MATCHSTATE")
     count = game.one("numPlayers")
@@ -126,12 +140,27 @@ def _merge(hand: Hand, data: bytes, rules: Rules, game: games.GameFile) -> None:
         for place, own in enumerate(front.split("|")):
             if own and holes.setdefault(place, own) != own:
                 raise LeftOut("cards of a player that differ", f"{holes[place]} and {own}")
+    own = next((row for row in data.decode().split("\n") if row.startswith("STATE:")), None)
+    if own:
+        _compare(hand, own.rstrip("\r"), last[0], holes)
+        return
     line.is_seen = True
     held = "|".join(holes.get(place, "") for place in range(count))
     names = "|".join(f"p{place + 1}" for place in range(count))
     line.fields = ["STATE", str(_number(data)), last[0],
                    held + ("/" + last[1] if last[1] else ""), "|".join("0" * count), names]
     hand.change("dealer-output", "the final state of what the dealer sent")
+
+
+def _compare(hand: Hand, own: str, betting: str, holes: dict[int, str]) -> None:
+    """Takes the line of the log as the hand, if it is what the dealer sent."""
+    fields = own.split(":")
+    held = fields[3].partition("/")[0].split("|") if len(fields) == 6 else []
+    if len(fields) != 6 or fields[2] != betting or any(
+            place >= len(held) or held[place] != cards for place, cards in holes.items()):
+        raise LeftOut("a line of a log that is not what the dealer sent", own)
+    hand.value.fields, hand.stated = fields, tuple(fields[4:6])
+    hand.change("dealer-output", "its line of the log, in place of what the dealer sent")
 
 
 def _number(data: bytes) -> int:

@@ -57,7 +57,7 @@ RULES = (
          "who posts, who acts first and who wins stay the same", "the seats are exchanged"),
     Rule("dealer-output", "logs", "lines with MATCHSTATE, as a dealer prints or a player gets them",
          "the last state of each hand as a line of a log, with the cards that any seat saw; the names "
-         "of the SCORE line; the values of the replay",
+         "of the SCORE line; the values of the replay; or the line of the log where it follows",
          "each state goes on from the one before; the values are compared with SCORE",
          "the final state of what the dealer sent"),
     Rule("score", "logs", "SCORE lines", "nothing: the sum of the values before it is compared, and "
