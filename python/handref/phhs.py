@@ -41,7 +41,7 @@ _LONG = {b'"': re.compile(rb"\\|\"\"\""), b"'": re.compile(rb"'''")}
 _RUN = {b'"': re.compile(rb'"{3,5}'), b"'": re.compile(rb"'{3,5}")}
 _HAND = re.compile(rb"^[ \t]*hand[ \t]*=(?![ \t]*(?:\"\"|''))", re.M)
 _LIKE_HEADER = re.compile(rb"\n[ \t]*\[[ \t]*[\"']?([0-9]{1,18})")
-_BLOCK = 1 << 22  # bytes that are read at a time
+_BLOCK = 1 << 21  # bytes that are read at a time
 NUMBER = re.compile(rb"\[[ \t]*[\"']?[0-9]")  # of a header, or of something else
 
 
@@ -206,10 +206,11 @@ def has_number(block: bytes) -> bool:
         return True  # the program says what is wrong with it
 
 
-def tables(file: IO[bytes]) -> Iterator[bytes]:
+def tables(file: IO[bytes], ahead: bool = False) -> Iterator[bytes]:
     """The tables of the hands of a file in the order of their numbers, the first ones while the
-    rest is not yet read; nothing if it is not cut. NotSure: it cannot be cut further."""
-    if os.fstat(file.fileno()).st_size > handref.MOST_BYTES and _ascends(file):
+    rest is not yet read, where it is long or they may run `ahead`; nothing if it is not cut.
+    NotSure: it cannot be cut further."""
+    if (ahead or os.fstat(file.fileno()).st_size > handref.MOST_BYTES) and _ascends(file):
         yield from _in_parts(file)
         return
     with own_map(file) as data:

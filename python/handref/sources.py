@@ -61,7 +61,8 @@ class Source:
 @dataclass(frozen=True)
 class Region:
     """The bytes of a piece of a file: its place, or the bytes themselves where they are not there
-    as they are (`piece`, of a packed file; `blocks`, the tables of hands of PHH)."""
+    as they are (`piece`, of a packed file; `blocks`, the tables of hands of PHH). One that is in
+    place of all before it is the whole file, which could not be cut to its end."""
     source: Source
     number: int
     start: int
@@ -69,6 +70,7 @@ class Region:
     piece: Optional[Piece] = None
     blocks: Optional[list[bytes]] = field(default=None, repr=False)
     hands_before: int = 0
+    is_in_place: bool = False
 
     def data(self) -> bytes:
         """No more than a byte beyond what an input may have."""
@@ -293,12 +295,19 @@ def with_games(found: Sequence[Source], note: Callable[[str], None],
 
 # Pieces.
 
-def regions(source: Source) -> Iterator[Region]:
-    """The pieces of a file, in order. NotSure: a file of PHH is too long for an input, and cannot
-    be cut."""
+def may_be_replaced(source: Source) -> bool:
+    """Whether the last piece of a file may be in place of those before it, where they run ahead."""
+    return source.notation == "phh" and not source.path.endswith(".gz") and \
+        PIECE < source.size <= handref.MOST_BYTES
+
+
+def regions(source: Source, ahead: bool = False) -> Iterator[Region]:
+    """The pieces of a file, in order; where they run `ahead`, those of a file of PHH that is within
+    the limit of an input are given before it is known whether it can be cut to its end. NotSure: a
+    file of PHH is too long for an input, and cannot be cut."""
     is_packed = source.path.endswith(".gz")
     if source.notation == "phh" and (is_packed or source.size > PIECE):
-        yield from _of_tables(source)
+        yield from _of_tables(source, ahead and may_be_replaced(source))
     elif is_packed:
         yield from _packed(source)
     elif source.size <= PIECE:
@@ -312,7 +321,7 @@ def regions(source: Source) -> Iterator[Region]:
                 start, number = end, number + 1
 
 
-def _of_tables(source: Source) -> Iterator[Region]:
+def _of_tables(source: Source, ahead: bool) -> Iterator[Region]:
     """The pieces of a file of PHH, in the order of the numbers of its hands."""
     is_packed = source.path.endswith(".gz")
     kept: list[bytes] = []
@@ -321,7 +330,8 @@ def _of_tables(source: Source) -> Iterator[Region]:
         with phhs.plain_file(source.path) as file:
             length = os.fstat(file.fileno()).st_size
             try:
-                for place, block in enumerate(phhs.tables(file) if length > PIECE else ()):
+                for place, block in enumerate(
+                        phhs.tables(file, ahead) if length > PIECE else ()):
                     if kept and size + len(block) > PIECE:
                         yield Region(source, number, first, 0 if is_packed else size, None, kept,
                                      first)
@@ -331,13 +341,14 @@ def _of_tables(source: Source) -> Iterator[Region]:
             except phhs.NotSure:
                 if length > handref.MOST_BYTES:
                     raise
-                kept = []  # no piece was given: a file within the limit is walked first
+                kept = []  # the file is the only piece, also where others were given before
             if kept:
                 yield Region(source, number, first, 0 if is_packed else size, None, kept, first)
                 return
             file.seek(0)
             data = file.read(handref.MOST_BYTES + 1)
-            yield Region(source, 0, 0, source.size, Piece(data, "phh", 0, 0, 0))
+            yield Region(source, 0, 0, source.size, Piece(data, "phh", 0, 0, 0),
+                         is_in_place=number > 0)
     except (EOFError, gzip.BadGzipFile, zlib.error) as fault:
         raise OSError(0, str(fault)) from fault
 
