@@ -129,6 +129,42 @@ plain_names() {
     eval "exec $written_are<&-"
 }
 
+# Writes a sign in place of each line end of a text: of PHH by the marks around it, of OHH by `\n`.
+# shellcheck disable=SC2016 # these are words of awk
+without_line_ends='
+    function closing(text, pattern, from) {
+        pattern = mark == "\"\"\"" ? "\\\\.|\"\"\"+" : "\047\047\047+"
+        for (from = 1; match(substr(text, from), pattern); from += RSTART + 1)
+            if (substr(text, from + RSTART - 1, 1) != "\\") return from + RSTART + RLENGTH - 4
+        return 0
+    }
+    function inside(text) {
+        if (mark != "\"\"\"") gsub(/["\\]/, "\\\\&", text)
+        return text
+    }
+    is_phh == "" {
+        for (done = ""; at = index($0, "\\"); $0 = substr($0, at + 2)) {
+            two = substr($0, at, 2)
+            done = done substr($0, 1, at - 1) (two == "\\n" ? sign : two)
+        }
+        print done $0
+        next
+    }
+    {
+        for (done = ""; mark != "" && at = closing($0); $0 = substr($0, at + 3)) {
+            done = done inside(substr($0, 1, at - 1)) "\"\"\""
+            mark = ""
+        }
+        if (mark != "") {
+            printf "%s", done inside($0) sign
+        } else if (match($0, /(\[|= |, )("""|\047\047\047)$/)) {
+            mark = substr($0, length($0) - 2)
+            printf "%s", done substr($0, 1, length($0) - 3) "\"\"\""
+        } else {
+            print done $0
+        }
+    }'
+
 # Puts hands, as `convert` writes them, in the place of the standard input, without line ends in
 # their texts. Fails where they have each sign that could stand for one, or get too long.
 put_plain() {
@@ -137,39 +173,8 @@ put_plain() {
         [ "$sign" -gt 1 ] || return
     done
     open_unnamed || return
-    LC_ALL=C awk -v is_phh="${from#ohh*}" -v sign="$(printf '\\\\u%04X' "$sign")" '
-        function closing(text, pattern, from) {
-            pattern = mark == "\"\"\"" ? "\\\\.|\"\"\"+" : "\047\047\047+"
-            for (from = 1; match(substr(text, from), pattern); from += RSTART + 1)
-                if (substr(text, from + RSTART - 1, 1) != "\\") return from + RSTART + RLENGTH - 4
-            return 0
-        }
-        function inside(text) {
-            if (mark != "\"\"\"") gsub(/["\\]/, "\\\\&", text)
-            return text
-        }
-        is_phh == "" {
-            for (done = ""; at = index($0, "\\"); $0 = substr($0, at + 2)) {
-                two = substr($0, at, 2)
-                done = done substr($0, 1, at - 1) (two == "\\n" ? sign : two)
-            }
-            print done $0
-            next
-        }
-        {
-            for (done = ""; mark != "" && at = closing($0); $0 = substr($0, at + 3)) {
-                done = done inside(substr($0, 1, at - 1)) "\"\"\""
-                mark = ""
-            }
-            if (mark != "") {
-                printf "%s", done inside($0) sign
-            } else if (match($0, /(\[|= |, )("""|\047\047\047)$/)) {
-                mark = substr($0, length($0) - 2)
-                printf "%s", done substr($0, 1, length($0) - 3) "\"\"\""
-            } else {
-                print done $0
-            }
-        }' <"$1" >"/dev/fd/$spare"
+    LC_ALL=C awk -v is_phh="${from#ohh*}" -v sign="$(printf '\\\\u%04X' "$sign")" "$without_line_ends" \
+        <"$1" >"/dev/fd/$spare"
     [ "$(wc -c <"/dev/fd/$spare")" -le 16777216 ] && eval "exec <'/dev/fd/$spare'" && line_end=$sign
     eval "exec $spare<&-"
     [ -n "$line_end" ]

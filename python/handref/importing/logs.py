@@ -33,40 +33,57 @@ class Line:
 def blocks(data: "Union[bytes, mmap.mmap]") -> Iterator[tuple[int, int, int]]:
     """The lines of a log. A line that is no hand has the number 0; the lines of one hand of a
     dealer's output are one block, with its line of the log where that follows."""
-    start, number, size = 0, 0, len(data)
-    open_hand: "Optional[tuple[bytes, int]]" = None  # its number in the log, and where it begins
-    last = 0
-    passed: list[tuple[int, int]] = []  # lines after it that say nothing
-    while start < size:
-        end = data.find(b"\n", start) + 1 or size
+    number = 0
+    open_hand: Optional[_Open] = None
+    for start, end in _lines(data):
         line = data[start:end]
-        seen = _SEEN.match(line)
-        is_passed = not seen and _PASSED.fullmatch(line)
-        own = seen[4] if seen else line[6:].partition(b":")[0] if line.startswith(b"STATE:") else None
-        if open_hand and (own == open_hand[0] or is_passed):
-            if is_passed:
-                passed.append((start, end))
-            else:
-                last, passed = end, []
-            if not seen and not is_passed:  # the line of the log ends the hand
-                yield number, open_hand[1], last
-                open_hand = None
-            start = end
-            continue
+        seen, is_passed = _SEEN.match(line), _PASSED.fullmatch(line)
         if open_hand:
-            yield number, open_hand[1], last
-            yield from ((0, *place) for place in passed)
-            open_hand, passed = None, []
+            own = seen[4] if seen else line[6:].partition(b":")[0] if line.startswith(b"STATE:") else b""
+            if is_passed:
+                open_hand.passed.append((start, end))
+                continue
+            if own == open_hand.own:
+                open_hand.end, open_hand.passed = end, []
+                if seen:
+                    continue
+            yield from open_hand.blocks(number)
+            is_taken, open_hand = own == open_hand.own, None
+            if is_taken:  # its line of the log, which ends it
+                continue
         if seen:
-            number, open_hand, last = number + 1, (seen[4], start), end
+            number, open_hand = number + 1, _Open(seen[4], start, end)
         else:
             is_hand = not is_passed and not line.startswith(b"SCORE:")
             number += is_hand
             yield number if is_hand else 0, start, end
-        start = end
     if open_hand:
-        yield number, open_hand[1], last
-        yield from ((0, *place) for place in passed)
+        yield from open_hand.blocks(number)
+
+
+@dataclass
+class _Open:
+    """A hand of a dealer's output: its number there, where it begins and ends, and the lines after
+    it that say nothing."""
+    own: bytes
+    start: int
+    end: int
+    passed: list[tuple[int, int]] = field(default_factory=list)
+
+    def blocks(self, number: int) -> Iterator[tuple[int, int, int]]:
+        """The hand, and the lines after it."""
+        yield number, self.start, self.end
+        for start, end in self.passed:
+            yield 0, start, end
+
+
+def _lines(data: "Union[bytes, mmap.mmap]") -> Iterator[tuple[int, int]]:
+    """Where each line begins and ends."""
+    start, size = 0, len(data)
+    while start < size:
+        end = data.find(b"\n", start) + 1 or size
+        yield start, end
+        start = end
 
 
 # Reading.
