@@ -8,7 +8,7 @@ import gzip
 import os
 import shutil
 from collections import Counter
-from typing import BinaryIO, Iterator, Optional, Sequence
+from typing import BinaryIO, Iterator, Sequence, Union
 
 import handref
 from handref import outputs, phhs, tables, texts
@@ -89,7 +89,7 @@ def _write_file(source: Source, out: str, dropped: Iterator[int], force: bool) -
 def _whole(source: Source) -> Iterator[tuple[bytes, bool]]:
     """A file as it is, unpacked."""
     with open(source.path, "rb") as read:
-        file = gzip.open(read) if source.path.endswith(".gz") else read
+        file: Union[BinaryIO, gzip.GzipFile] = gzip.open(read) if source.path.endswith(".gz") else read
         while block := file.read(1 << 20):
             yield block, True
 

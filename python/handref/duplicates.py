@@ -105,6 +105,7 @@ class Seen:
         self.with_plays, self.is_kept = with_plays, is_kept
         self.rows = sqlite3.connect("")  # a file that goes away, and is in memory while it is small
         self.rows.execute("pragma cache_size = -32000")
+        self.rows.execute("pragma journal_mode = off")  # nothing of it is ever taken back
         self.rows.execute("create table seen (record blob primary key, number blob, file integer, "
                           "hand integer) without rowid")
         self.rows.execute("create table plays (play blob primary key, file integer, hand integer) "

@@ -52,6 +52,7 @@ class Hands:
     def __init__(self) -> None:
         self.rows = sqlite3.connect("")  # a file that goes away, and is in memory while it is small
         self.rows.execute("pragma cache_size = -32000")
+        self.rows.execute("pragma journal_mode = off")  # nothing of it is ever taken back
         self.rows.execute("create table hands (agents integer, number integer, holes text, board "
                           "text, file integer, hand integer, names text, nets text)")
         self.agents: dict[tuple[str, ...], int] = {}
