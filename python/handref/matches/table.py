@@ -45,6 +45,8 @@ def of_scores(log: "Log") -> tuple[str, str]:
 
 def put(rows: Rows, match: "Match") -> None:
     """Writes what each agent won: all in all, by seat, in pairs, and against whom."""
+    if not match.agents:
+        return
     rows.head(f"{_HEAD}  seat  name\n")
     for name in match.agents:
         _put_sum(rows, match, "agent", match.of_agent(name), name)
