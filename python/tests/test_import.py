@@ -409,6 +409,26 @@ class Amounts(Case):
             made = [line for line in (self.out / f"{name}.log").read_text().split("\n") if line.startswith("STATE")]
             self.assertEqual(made, list(logged.values()))
 
+    def test_halves_of_what_a_dealer_sent(self):
+        """Half chips that only the SCORE line of a dealer's output has; and one that does not read."""
+        head, line, score = (WILD / "half-chips.log").read_text().rstrip("\n").split("\n")
+        _, number, betting, cards, _, _ = line.split(":")
+        text = f"TO 1 at 1.5 MATCHSTATE:0:{number}:{betting}:{cards}\nTO 2 at 1.5 MATCHSTATE:1:{number}:{betting}:{cards}\n" \
+            f"TO 3 at 1.5 MATCHSTATE:2:{number}:{betting}:{cards}\n"
+        game = WILD / "holdem.nolimit.3p.game"
+        done = user("--out", self.out, "--game", game, self.put("a.txt", text + score + "\n"))
+        self.assertEqual((done[0], done[2]), (0, ""), done[1])
+        self.assertIn("amounts times 2\n", done[1])
+        user("--out", self.out, "--game", game, self.put("b.log", f"{head}\n{line}\n{score}\n"))
+        made = [[row for row in (self.out / name).read_text().split("\n") if row[:5] in ("STATE", "SCORE")]
+                for name in ("a.log", "b.log")]
+        self.assertEqual(made[0], made[1])
+        self.assertEqual(len(made[0]), 2)
+        for wrong in (score.replace(":-", ":x"), score + ":D", score.replace("|A", "")):
+            done = user("--check", "--game", game, self.put("c.log", f"{head}\n{line}\n{wrong}x\n".replace("Cx", "C|x")))
+            self.assertEqual(done[0], 1)
+            self.assertIn("line 3: SCORE does not read", done[1])
+
     def test_score(self):
         self.assertIn("wild/wrong-score.log: line 8: SCORE says 20355, due 20350\n",
                       user("--check", "wild/wrong-score.log", folder=HERE)[1])

@@ -99,7 +99,9 @@ def read(hand: Hand, data: bytes, rules: Rules, game: games.GameFile) -> None:
     if not hand.number:
         if text.startswith("SCORE:"):
             line.fields = text.split(":")
-            hand.stated = tuple(line.fields[1:3])
+            hand.stated = tuple(line.fields[1:])
+            if rules.has("unit"):
+                _need_of_values(hand, line.fields[1])
         return
     if text.startswith("STATE:"):
         line.fields = text.split(":")
@@ -113,9 +115,13 @@ def read(hand: Hand, data: bytes, rules: Rules, game: games.GameFile) -> None:
     if len(line.fields) == 6 and rules.has("unit"):
         for value in _RAISE.findall(line.fields[2]):
             _need(hand, value)
-        for value in line.fields[4].split("|"):
-            if _VALUE.fullmatch(value):
-                _need(hand, value)
+        _need_of_values(hand, line.fields[4])
+
+
+def _need_of_values(hand: Hand, values: str) -> None:
+    for value in values.split("|"):
+        if _VALUE.fullmatch(value):
+            _need(hand, value)
 
 
 def exact(value: str) -> Fraction:
@@ -266,7 +272,7 @@ def name_players(found: Sequence[Written]) -> None:
     """Gives the players of a dealer's output the names of its SCORE line, which are in the order of
     the players."""
     names = next((each.hand.stated[1].split("|") for each in reversed(found)
-                  if not each.hand.number and each.hand.stated and len(each.hand.stated) == 2), None)
+                  if not each.hand.number and len(each.hand.stated) == 2), None)
     if not names:
         return
     for each in found:
@@ -282,15 +288,18 @@ def name_players(found: Sequence[Written]) -> None:
 
 
 def scores(found: Sequence[Written]) -> list[str]:
-    """What is wrong with the SCORE lines: each has to be the sum of the values since the last one."""
+    """What is wrong with the SCORE lines: each has to read, and to be the sum of the values since
+    the last one."""
     said: list[str] = []
     sums: dict[str, Fraction] = {}
     for each in found:
-        if not each.hand.stated or len(each.hand.stated) != 2:
+        parts = [text.split("|") for text in each.hand.stated]
+        if len(parts) != 2 or len(parts[0]) != len(parts[1]) or not all(
+                re.fullmatch(r"-?[0-9]+(?:[./][0-9]+)?", value) for value in parts[0]):
+            if each.hand.stated and not each.hand.number:
+                said.append(f"line {each.hand.line}: SCORE does not read")
             continue
-        values, names = (text.split("|") for text in each.hand.stated)
-        if not all(re.fullmatch(r"-?[0-9]+(?:[./][0-9]+)?", value) for value in values):
-            continue
+        values, names = parts
         if each.hand.number:
             for name, value in zip(names, values):
                 sums[name] = sums.get(name, Fraction(0)) + exact(value)
