@@ -10,8 +10,8 @@ from handref.importing.record import Hand, LeftOut
 
 MOST = 10 ** 12  # chips of an amount
 NUMBER = r"[0-9]+(?:\.[0-9]+)?"
-MONEY_UNITS = (1, 100, *(10 ** places for places in range(3, 10)))
-CHIP_UNITS = (1, 2, 4, *(10 ** places for places in range(1, 10)))
+MONEY_UNITS: tuple[int, ...] = (1, 100, *(10 ** places for places in range(3, 10)))
+CHIP_UNITS: tuple[int, ...] = (1, 2, 4, *(10 ** places for places in range(1, 10)))
 
 Amount = Union[int, Decimal]
 
