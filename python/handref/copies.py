@@ -6,6 +6,7 @@ that is refused has no id, and is kept; a file that could not be read is not wri
 """
 import gzip
 import os
+import re
 import shutil
 from collections import Counter
 from typing import BinaryIO, Iterator, Sequence, Union
@@ -16,19 +17,24 @@ from handref.duplicates import COLUMNS, Seen, name_of
 from handref.sources import Source
 
 LIST = "left-out.csv"
+_FRONT = re.compile(rb"(?:\xef\xbb\xbf)?(?:[ \t]*(?:#[^\n]*)?\r?\n)*")  # of a file of tables
 
 
 def places(found: Sequence[Source], is_folder: bool) -> list[str]:
     """The names of files below the folder that is written: those that they have in the one folder
     that was given, or else below the folder that all of them are in. ValueError: a file is there
-    twice."""
+    twice, or two have one name."""
     paths = [os.path.realpath(source.path) for source in found]
     twice = next((path for path, count in Counter(paths).items() if count > 1), None)
     if twice:
         raise ValueError(f"{texts.shown(twice)}: it is there twice; --remove writes a file once")
     top = os.path.commonpath([os.path.dirname(path) for path in paths]) if paths else ""
-    return [(source.out if is_folder else os.path.relpath(path, top)).removesuffix(".gz")
-            for source, path in zip(found, paths)]
+    names = [(source.out if is_folder else os.path.relpath(path, top)).removesuffix(".gz")
+             for source, path in zip(found, paths)]
+    twice = next((name for name, count in Counter(names).items() if count > 1), None)
+    if twice:
+        raise ValueError(f"{texts.shown(twice)}: two files would have this name, as none is packed")
+    return names
 
 
 def write(seen: Seen, out: str, is_folder: bool, force: bool) -> str:
@@ -100,16 +106,22 @@ class _Empty(Exception):
 
 def _parts(source: Source) -> Iterator[tuple[bytes, bool]]:
     """A file in parts, in the order in which its hands are counted: its bytes, and whether there is
-    a hand in them. Bytes before the first table of a file of PHH belong to no hand."""
+    a hand in them."""
     if source.notation != "phh":
         for unit, count, _ in handref._units(source.path, source.notation):
             yield unit, bool(count)
         return
     with phhs.plain_file(source.path) as file:
         is_cut = False
-        for block in phhs.tables(file):
-            is_cut = True
-            yield block if block.endswith(b"\n") else block + b"\n", True
+        front = _FRONT.match(file.read(1 << 16))
+        try:
+            for block in phhs.tables(file):
+                if not is_cut and front:
+                    yield front[0], False
+                is_cut = True
+                yield block if block.endswith(b"\n") else block + b"\n", True
+        except phhs.NotSure as why:
+            raise ValueError(f"{source.shown}: not cut at its hands: {why}") from why
         if not is_cut:
             file.seek(0)
             yield file.read(), True

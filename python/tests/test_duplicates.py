@@ -120,7 +120,7 @@ class Duplicates(unittest.TestCase):
                                                    "# end").encode()))
         hand = handref.convert((LINE % 0).encode(), "acpc", "phh", MATCH).decode()
         other = (EXAMPLES / "folds.phh").read_text()
-        self.put("in/c.phhs", f"[1]\n# first\n{hand}[3]\n{other}\n[7]\nhand = 0\n{hand}".encode())
+        self.put("in/c.phhs", f"# of PHH\n\n[1]\n# first\n{hand}[3]\n{other}\n[7]\nhand = 0\n{hand}".encode())
         self.put("in/d.phh", other.encode())
         self.put("in/e.phh", (EXAMPLES / "limit.phh").read_bytes())
         self.put("in/f.ohh", (EXAMPLES / "rake.ohh").read_bytes() + b"\n"
@@ -136,7 +136,7 @@ class Duplicates(unittest.TestCase):
             ("in/sub/b.log.gz", "2", "in/a.log", "1", "number")])
         self.assertEqual(written, {
             "a.log": "# mine\n" + LINE % 0 + bad, "match.game": Path(MATCH).read_text(),
-            "c.phhs": f"[3]\n{other}\n", "e.phh": (EXAMPLES / "limit.phh").read_text(),
+            "c.phhs": f"# of PHH\n\n[3]\n{other}\n", "e.phh": (EXAMPLES / "limit.phh").read_text(),
             "f.ohh": (EXAMPLES / "rake.ohh").read_text() + "\n",
             "sub/match.game": Path(MATCH).read_text(), "sub/b.log": LINE.replace("A|B", "C|D") % 1 + "# end"})
         self.assertEqual(self.said.splitlines()[-1],
@@ -158,6 +158,11 @@ class Duplicates(unittest.TestCase):
         for words, said in ((["one", "one/a.phh"], "it is there twice"), (["--from", "phh", "-"], "not with the standard input")):
             self.found("--remove", "--out", "new", *words, status=2)
             self.assertIn(said, self.said)
+        for name in ("both/a.phh", "both/a.phh.gz"):
+            data = (EXAMPLES / "folds.phh").read_bytes()
+            self.put(name, gzip.compress(data) if name.endswith(".gz") else data)
+        self.found("--remove", "--out", "new", "both", status=2)
+        self.assertIn("a.phh: two files would have this name", self.said)
         self.put("mine/one/a.phh", b"mine")
         self.found("--remove", "--out", "mine", "one", "two", status=2)
         self.assertIn("handref has not made it", self.said)
