@@ -200,7 +200,9 @@ exit 0
         done = subprocess.run([sys.executable, "-c", code, "duplicates", "-j", "2", "--game", MATCH,
                                "a.log.gz"], capture_output=True, text=True, cwd=self.folder,
                               env={**os.environ, "PYTHONPATH": str(HERE.parent)})
-        self.assertEqual(done.stdout.splitlines()[-3], "duplicates: 20000 of 40000 hands")
+        self.assertEqual(done.stdout.splitlines()[-3:], [
+            "duplicates: 20000 of 40000 hands", "   20000 copy under another number", "not listed: "
+            "1000 hands with the same play under other names or dates (--no-notes)"], done.stderr)
         self.assertLess(int(done.stderr.split()[-1]), 100_000)
 
 
