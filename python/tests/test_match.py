@@ -27,7 +27,7 @@ AB, BA = "A|B", "B|A"
 ONE = RAISED % (0, AB) + FOLDED % (1, BA) + BET % (2, AB) + RAISED % (3, BA)
 
 
-class Match(Case):
+class Calls(Case):
     def call(self, *words, status=0):
         done = subprocess.run(
             [sys.executable, "-m", "handref", *map(str, words)],
@@ -54,6 +54,8 @@ class Match(Case):
     def games(self):
         self.put("match.game", MATCH.read_text())
 
+
+class Match(Calls):
     def test_sums(self):
         """A wins -100, -50, 500 and 100: 450, a mean of 112.5 with deviations whose squares sum up
         to 221,875, so 3.18245 * sqrt(221875 / 3 / 4) = 432.74 chips. In seat 1 it wins -100 and 500
@@ -275,7 +277,7 @@ class Match(Case):
         self.assertEqual(alphas, [["60.5", "\u00b1", "225.0"], ["60.5", "\u00b1", "209.1"]])
 
 
-class Views(Match):
+class Views(Calls):
     def test_name(self):
         """B has seat 2 and then seat 1: what it saw of each hand, in the order of the log."""
         self.games()
