@@ -157,6 +157,20 @@ class Promise(Case):
         self.assertEqual(user("--out", self.out, path)[0], 0)
         self.assertEqual(sorted(os.listdir(self.out)), [".handref-import", "a.phh"])
 
+    def test_a_hand_keeps_the_number_of_its_place(self):
+        """Where a hand before it is left out: as `convert` counts the hands of the whole file."""
+        one = FOLDS.replace("AhKh", "A?Kh")
+        numbered = [FOLDS, FOLDS + "hand = 77\n", FOLDS + "hand = ''\n", FOLDS]
+        for name, first in (("whole.phhs", FOLDS), ("some.phhs", one)):
+            self.put(name, "\n".join(f"[{number}]  # a table\n{table}" for number, table
+                                     in enumerate([first, *numbered], 1)))
+        done = user("--out", self.out, self.folder / "some.phhs")
+        self.assertEqual((done[0], done[2]), (3, ""), done)
+        self.assertIn("4 written, 1 left out; 4 legal", done[1])
+        found = [re.findall(r'"game_number":"([^"]*)"', handref.convert(path, "phh", "ohh").decode())
+                 for path in (self.folder / "whole.phhs", self.out / "some.phhs")]
+        self.assertEqual(found, [["0", "1", "77", "3", "4"], ["1", "77", "3", "4"]])
+
     def test_rules_off(self):
         """Each rule can be turned off; the hand is then as it was, and judged so."""
         for name, rule, said in (

@@ -3,7 +3,6 @@ import os
 import re
 from typing import BinaryIO, Iterator, Sequence
 
-from handref import phhs
 from handref.importing import phh, work
 from handref.importing.record import Written
 from handref.importing.wild import Wild
@@ -69,5 +68,13 @@ def _write_tables(file: BinaryIO, one: Wild, written: Sequence[Written]) -> None
     for place, each in enumerate(written, 1):
         data = each.data
         if each.hand.number > place:
-            data = phhs.numbered(data, each.hand.number - 1)
+            data = _numbered(data, each.hand.number - 1)
         file.write(data if data.endswith(b"\n") or place == len(written) else data + b"\n")
+
+
+def _numbered(data: bytes, number: int) -> bytes:
+    """A hand of PHH with the key `hand`: its own, or else this number."""
+    table = phh.Table(data.decode())
+    if table.table.get("hand", "") == "":
+        table.add("hand", str(number))
+    return table.edited().encode()
