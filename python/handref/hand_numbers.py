@@ -7,7 +7,7 @@ has, or with none. In their new file those with none are numbered by their place
 """
 import json
 import re
-from typing import Iterator, Optional
+from typing import Iterator, Optional, Sequence
 
 import handref
 from handref import Notation, phhs, toml
@@ -18,7 +18,7 @@ _LOG = re.compile(rb"STATE:(\d*):")
 _NO_OHH, _NO_LOG = b'"game_number":""', b"STATE::"
 
 
-def own(units: "list[bytes]", notation: Notation) -> Optional[list[bool]]:
+def own(units: Sequence[bytes], notation: Notation) -> Optional[list[bool]]:
     """Whether hands, each a file of its own, have a number of their own; None where all have."""
     if notation == "acpc":
         return None
@@ -29,7 +29,7 @@ def _has_own(unit: bytes, notation: Notation) -> bool:
     if notation == "phh":
         return phhs.has_number(unit.removeprefix(b"\xef\xbb\xbf"))
     try:
-        return json.loads(unit)["ohh"].get("game_number", "") != ""
+        return bool(json.loads(unit)["ohh"].get("game_number", "") != "")
     except (ValueError, LookupError, TypeError, AttributeError):
         return False  # the program says what is wrong with it
 

@@ -65,7 +65,8 @@ def _inputs(hands: Anything, notation: Optional[Notation], game: Game) -> Iterat
         yield Input(hands, _known(notation), game)
         return
     paths = [hands] if isinstance(hands, (str, os.PathLike)) else hands
-    for path in map(os.fspath, paths):
+    for given in paths:
+        path = os.fspath(given)
         if path != "-" and _is_device(path):
             yield Input(handref.read(path), _known(notation), game, file=path)
             continue

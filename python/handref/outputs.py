@@ -42,7 +42,8 @@ def _mark(place: str) -> None:
         pass  # the next call asks for --force
 
 # Ends of names of files that no walk takes for hands: what is not yet whole, and a journal.
-PART, JOURNAL = ".handref-part", ".handref-journal"
+PART: str = ".handref-part"
+JOURNAL: str = ".handref-journal"
 
 
 @contextmanager

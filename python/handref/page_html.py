@@ -60,8 +60,10 @@ def document(made: Page, title: str) -> str:
 def is_page(text: bytes) -> bool:
     """Whether these are the bytes of a page as it was made here, and nobody has changed them."""
     found = re.search((MARK % "([0-9a-f]{64})").encode(), text)
-    bare = text.replace(found[1], _NO_SUM.encode(), 1) if found else b""
-    return bool(found) and hashlib.sha256(bare).hexdigest().encode() == found[1]
+    if not found:
+        return False
+    bare = text.replace(found[1], _NO_SUM.encode(), 1)
+    return hashlib.sha256(bare).hexdigest().encode() == found[1]
 
 
 def _text(text: str) -> str:

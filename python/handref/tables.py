@@ -162,7 +162,8 @@ def _sums(command: str, hands: Anything, notation: Optional[Notation], game: Gam
         return results.of_session(handref.session(data, own, rules, with_changes=False))
 
     is_report = command == "report"
-    sums = results.ReportSum() if is_report else results.SessionSum()
+    sums: Union[results.ReportSum, results.SessionSum] = \
+        results.ReportSum() if is_report else results.SessionSum()
     for _, found in inputs.each(hands, notation, game, report if is_report else session, len):
         sums.add(found)
     yield from sums.rows()
@@ -173,8 +174,11 @@ def _changes(hands: Anything, notation: Optional[Notation], game: Game) -> Table
     def ask(data: bytes, own: Notation, rules: Game) -> tuple[handref.Session, int]:
         return handref.session(data, own, rules), len(handref.check(data, own, rules))
 
+    def count(found: tuple[handref.Session, int]) -> int:
+        return found[1]
+
     last: dict[str, int] = {}
-    for own, (said, _) in inputs.each(hands, notation, game, ask, lambda found: found[1]):
+    for own, (said, _) in inputs.each(hands, notation, game, ask, count):
         for row in said.changes:
             kind, chips = row.kind, row.chips
             if kind == "join" and row.name in last:

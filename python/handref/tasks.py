@@ -127,8 +127,8 @@ def _judged_apart(data: bytes, region: Region, call: Call, error: HandrefError,
     if len(hands) < 2 and not (hands and call.leaves_out):
         answer.is_killed = error.status < 0
         answer.hands = max(1, len(hands))
-        hand = None if call.leaves_out else error.hand  # no hand can be left out of it
-        answer.problems.append((hand, error.line_number, status_of(error), error.line))
+        place = None if call.leaves_out else error.hand  # no hand can be left out of it
+        answer.problems.append((place, error.line_number, status_of(error), error.line))
         return None
     found = single_hands.verdicts(hands, _game_of(region.source, call))
     answer.hands, answer.legal = len(hands), found.count(None)

@@ -163,9 +163,9 @@ def _merge(hand: Hand, data: bytes, rules: Rules, game: games.GameFile) -> None:
         for place, own in enumerate(front.split("|")):
             if own and holes.setdefault(place, own) != own:
                 raise LeftOut("cards of a player that differ", f"{holes[place]} and {own}")
-    own = next((row for row in data.decode().split("\n") if row.startswith("STATE:")), None)
-    if own:
-        _compare(hand, own.rstrip("\r"), last[0], holes)
+    whole = next((row for row in data.decode().split("\n") if row.startswith("STATE:")), None)
+    if whole:
+        _compare(hand, whole.rstrip("\r"), last[0], holes)
         return
     line.is_seen = True
     held = "|".join(holes.get(place, "") for place in range(count))

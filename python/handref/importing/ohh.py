@@ -187,7 +187,7 @@ def _with_jackpots(hand: Hand, inner: dict[str, Any]) -> None:
     """A jackpot is taken from a pot as a rake is, where the pot is only whole with it."""
     for pot in listed(inner, "pots"):
         jackpot, rake, amount = pot.get("jackpot"), pot.get("rake", 0), pot.get("amount")
-        wins = [win.get("win_amount") for win in listed(pot, "player_wins")]
+        wins: list[Any] = [win.get("win_amount") for win in listed(pot, "player_wins")]
         if not all(map(is_number, (jackpot, rake, amount, *wins))) or not jackpot:
             continue
         if sum(wins, 0) + rake + jackpot == amount:

@@ -91,12 +91,13 @@ def _results(own: play.Play, inner: dict[str, Any], seats: dict[Any, int]) -> No
     """What the pots state: finishing stacks and rakes."""
     pots = inner.get("pots")
     own.has_results = pots is not None
-    for pot in pots or []:
+    if pots is None:
+        return
+    for pot in pots:
         own.rakes.append(pot.get("rake", 0))
         for win in pot["player_wins"]:
             own.collect(seats[win["player_id"]], win["win_amount"])
-    if own.has_results:
-        own.give_back(sum(pot["amount"] for pot in pots))
+    own.give_back(sum(pot["amount"] for pot in pots))
 
 
 def _notes(own: play.Play, inner: dict[str, Any]) -> None:

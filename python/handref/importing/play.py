@@ -4,14 +4,20 @@ The reader of a source adds up what the source itself says that each player puts
 collects. These sums are written as finishing stacks, so that the proved replay compares them."""
 import datetime
 from dataclasses import dataclass, field
-from typing import Any, Optional, Union
+from typing import Any, NamedTuple, Optional, Union
 
 from handref import single_hands
 from handref.importing import amounts
 from handref.importing.amounts import Amount
 from handref.importing.record import LeftOut
 
-Move = Union[tuple[str, str], tuple[int, str], tuple[int, str, Amount]]
+
+class Move(NamedTuple):
+    """What a seat does, and to which total it raises; or the cards that the board gets."""
+    seat: int = 0
+    what: str = ""
+    total: Optional[Amount] = None
+    cards: Optional[str] = None
 
 
 @dataclass
@@ -83,13 +89,13 @@ class Play:
     def fold(self, seat: int) -> None:
         """A player folds."""
         self.folded[seat] = self.street
-        self.moves.append((seat, "f"))
+        self.moves.append(Move(seat, "f"))
 
     def call(self, seat: int, chips: Amount) -> None:
         """A player checks, or calls with these chips."""
         self.on[seat] = self.on.get(seat, 0) + chips
         self.add(seat, chips)
-        self.moves.append((seat, "cc"))
+        self.moves.append(Move(seat, "cc"))
 
     def raise_by(self, seat: int, chips: Amount) -> None:
         """A player bets or raises with these chips."""
@@ -99,11 +105,11 @@ class Play:
         """A player bets or raises to this total on the street."""
         self.add(seat, total - self.on.get(seat, 0))
         self.on[seat] = self.bet = total
-        self.moves.append((seat, "cbr", total))
+        self.moves.append(Move(seat, "cbr", total))
 
     def next_street(self, cards: str) -> None:
         """The board gets cards."""
-        self.moves.append(("db", cards))
+        self.moves.append(Move(cards=cards))
         self.board += [cards[place:place + 2] for place in range(0, len(cards), 2)]
         self.street += 1
         self.on, self.bet = {}, 0
@@ -164,7 +170,7 @@ class Play:
         found = [player.stack for player in self.players.values()]
         for each in (self.antes, self.blinds, self.put, self.back, self.won):
             found += each.values()
-        found += [move[2] for move in self.moves if len(move) == 3]
+        found += [move.total for move in self.moves if move.total is not None]
         return found + [self.small_blind, self.big_blind, *self.bets, *self.rakes]
 
     def hole_cards(self) -> int:
@@ -208,12 +214,12 @@ class Play:
         found = [f"d dh p{number} {(self.cards.get(seat, '') + unknown)[:len(unknown)]}"
                  for seat, number in place.items()]
         for move in self.moves:
-            if move[0] == "db":
-                found.append(f"d db {move[1]}")
-            elif len(move) == 3:
-                found.append(f"p{place[int(move[0])]} cbr {amounts.whole(move[2], times)}")
-            else:
-                found.append(f"p{place[int(move[0])]} {move[1]}")
+            if move.cards is not None:
+                found.append(f"d db {move.cards}")
+                continue
+            player = place[int(move.seat)]  # a seat that is no number is refused
+            chips = "" if move.total is None else f" {amounts.whole(move.total, times)}"
+            found.append(f"p{player} {move.what}{chips}")
         for seat, cards in self.ends.items():
             if seat not in self.folded and (not cards or len(cards) == len(unknown)):
                 found.append(f"p{place[seat]} sm {cards}".rstrip())

@@ -48,10 +48,11 @@ def of_winnings(replay: Replay, stacks: Sequence[int], won: Sequence[int]) -> Op
     came back."""
     pot, total = sum(pot.chips for pot in replay.pots), sum(won)
     back = [replay.returned.get(seat, 0) for seat in range(1, len(stacks) + 1)]
+    came_back = sum(back)
     said = f"winnings {total} of {pot}"
-    if total > pot and sum(back):
+    if total > pot and came_back:
         won = [chips - returned for chips, returned in zip(won, back)]
-        said += f" and {sum(back)} that came back"
+        said += f" and {came_back} that came back"
     if min(won) < 0 or len(replay.steps[-1].put) != len(stacks):
         return None
     found = of_pots(replay, won)
