@@ -35,7 +35,7 @@ def main(given: List[str]) -> int:
     for name in ("asyncio", "distributed", "tornado"):
         logging.getLogger(name).setLevel(logging.CRITICAL)  # what is said while workers are closed
     with Client(address or LocalCluster(n_workers=2, threads_per_worker=1, processes=False,
-                                        dashboard_address=None)) as client:
+                                        dashboard_address="127.0.0.1:0")) as client:
         shares = max(1, sum(client.nthreads().values()))
         client.gather(client.map(share, [words] * shares, range(1, shares + 1),
                                  [shares] * shares, pure=False),
