@@ -6,8 +6,10 @@ mod card;
 mod deck;
 mod growing;
 mod known;
+mod libraries;
 mod memory;
 mod pick;
+mod pushing;
 mod room;
 mod row;
 mod set;
@@ -16,9 +18,14 @@ mod spelling;
 pub use card::{Card, Rank, Slot, Suit};
 pub use deck::{card_at, card_from_index, index_in_deck, rank_index, suit_index};
 pub use growing::{TryExtend, TryInsert, TryPush, TryWrite, displayed, string_from, vec_from};
+pub use libraries::json_tree;
 pub use memory::Memory;
 pub use pick::Pick;
-pub use room::{MOST_ROOM, boxed, list_with_room, repeated_for, reserve, reserve_for};
+pub use pushing::{PushTo, text_from};
+pub use room::{
+    MOST_BYTES, MOST_ROOM, boxed, bytes_with_room, list_with_room, repeated_for, reserve,
+    reserve_for,
+};
 pub use row::{CardRow, ROW_ENTRIES, SlotRow};
 pub use set::CardSet;
 pub use spelling::{CardFault, read_slots, slot_text};

@@ -1,6 +1,5 @@
 //! Reads the blocks of a file as its hands, in order.
 ghost use Rattle.std.specs.Prelude.{◌≡◌, ◌≤◌, [], ◌∷◌, Some, option_map, map, IfOk};
-ghost use Rattle.serde_json.specs.Errors.{IsMemory};
 ghost use Rattle.serde_json.specs.View.{view};
 ghost use Rattle.first_fault.specs.declared.limits.TheConstants.{MOST_FILE_MOVES, MOST_HANDS};
 ghost use Rattle.first_fault.specs.Reading.{Gives};
@@ -14,13 +13,13 @@ ghost use Rattle.hand_canon.specs.PlainHands.{plain};
 use crate::blocks::cut_blocks;
 use crate::fault::OhhFault;
 use crate::hand::read_hand;
-use card_set::Memory;
+use card_set::{Memory, json_tree};
 use first_fault::{MOST_HANDS, Quantity, ReadError};
 use hand_canon::{Record, Records};
 use ohh_members::Dialect;
 use ohh_members::fault::{MemberFault, MemberFaultKind, Path};
 use ohh_members::values::{fault_at, field};
-use serde_json::{Error, Value};
+use serde_json::Value;
 use std::alloc::Global;
 
 /// The hands of a file in a dialect, and the number of moves in the file.
@@ -92,28 +91,11 @@ fn read_numbered(
 }
 
 // The JSON tree of a block, or nothing if it is not JSON.
-#[tactic(auto, using(crate::proofs::Trees::no_tree))]
+#[tactic(auto, using(crate::proofs::Trees::no_tree, crate::proofs::Trees::tree_is))]
 fn parse(alloc: Global, block: &[u8]) -> Result<Option<Value>, Memory>
     ensures { IfOk result (λ tree. option_map view tree ≡ tree_of block.now) }
 {
-    match Value::from_slice(alloc, block) {
-        Ok(tree) => Ok(Some(tree)),
-        Err(error) => {
-            if error.is_memory() {
-                Err(refused_in_parser(&error))
-            } else {
-                Ok(None)
-            }
-        }
-    }
-}
-
-// The parser reports out of memory only if a request was refused; that is assumed here.
-#[tactic(auto, using(card_set::specs::Refusal::an_allocator_said_so))]
-fn refused_in_parser(_error: &Error) -> Memory
-    requires { IsMemory _error.now }
-{
-    Memory {}
+    json_tree(alloc, block)
 }
 
 // The hand of a tree at this place of its file, from 0, after `file_moves` moves of the file.

@@ -6,7 +6,7 @@ ghost use Rattle.play_event.specs.PackedOnce.{one_script};
 use crate::cursor::Cursor;
 use crate::event::Event;
 use crate::packing::append;
-use card_set::{MOST_ROOM, Memory, list_with_room};
+use card_set::{MOST_BYTES, Memory, bytes_with_room};
 use std::alloc::Global;
 use std::marker::Model;
 
@@ -81,9 +81,9 @@ impl Script {
         ensures { IfOk result (λ script. script ≡ []) }
     {
         Ok(Script {
-            bytes: list_with_room(
+            bytes: bytes_with_room(
                 alloc,
-                events.saturating_mul(USUAL_EVENT_BYTES).min(MOST_ROOM),
+                events.saturating_mul(USUAL_EVENT_BYTES).min(MOST_BYTES),
             )?,
             count: 0,
         })

@@ -1,12 +1,11 @@
 //! Tallies the seats of all hands by their names, in the order in which names are first seen.
-ghost use Rattle.std.specs.Prelude.{◌≡◌, OnOk, nat_eq};
-ghost use Rattle.indexmap.specs.IndexMap.{insert_entry};
+ghost use Rattle.std.specs.Prelude.{◌≡◌, OnOk};
 ghost use Rattle.printed_hands.specs.Report.{seated_in};
 ghost use Rattle.printed_hands.specs.Tallies.{AreTallied, AreWithin, MOST_SEATS, named_tallies, with_play};
 
 use crate::index::NameIndex;
 use crate::tally::{NamedTally, add_to_tally, new_tally};
-use card_set::Memory;
+use card_set::{Memory, TryInsert};
 use chip_ledger::Seat;
 use first_fault::Text;
 use hand_canon::{Play, name_of};
@@ -35,26 +34,10 @@ pub fn tally_seat(
     if place == others {
         let tally = add_to_tally(new_tally(), number, play, seat);
         let name = Text::new(alloc, name)?;
-        insert_tally(tallies, place, NamedTally { name, tally })?;
+        tallies.try_insert(place, NamedTally { name, tally })?;
         return Ok(());
     }
     let tally = add_to_tally(tallies[place].tally, number, play, seat);
     tallies[place].tally = tally;
     Ok(())
-}
-
-// Puts a tally under its place. `indexmap` fails only if memory is refused.
-#[tactic(auto, using(card_set::specs::Refusal::an_allocator_said_so))]
-fn insert_tally(
-    tallies: &mut IndexMap<usize, NamedTally>,
-    place: usize,
-    tally: NamedTally,
-) -> Result<(), Memory>
-    ensures { OnOk result
-        (tallies.new.entries ≡ insert_entry nat_eq tallies.old.entries place tally) }
-{
-    match tallies.insert(place, tally) {
-        Ok(_) => Ok(()),
-        Err(_) => Err(Memory {}),
-    }
 }
