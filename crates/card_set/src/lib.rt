@@ -18,7 +18,7 @@ mod spelling;
 pub use card::{Card, Rank, Slot, Suit};
 pub use deck::{card_at, card_from_index, index_in_deck, rank_index, suit_index};
 pub use growing::{TryExtend, TryInsert, TryPush, TryWrite, displayed, string_from, vec_from};
-pub use libraries::json_tree;
+pub use libraries::{add_csv_field, csv_bytes, csv_with_head, end_csv_row, json_tree};
 pub use memory::Memory;
 pub use pick::Pick;
 pub use pushing::{PushTo, text_from};

@@ -6,8 +6,11 @@ ghost use Rattle.indexmap.specs.IndexMap.{IsUnchanged, insert_entry, spare};
 ghost use Rattle.serde_json.specs.Read.{read};
 ghost use Rattle.serde_json.specs.View.{view};
 
+mod csv_calls;
+
 use crate::growing::TryInsert;
 use crate::memory::{Memory, refused};
+pub use csv_calls::{add_csv_field, csv_bytes, csv_with_head, end_csv_row};
 use indexmap::IndexMap;
 use serde_json::Value;
 use std::alloc::Global;
