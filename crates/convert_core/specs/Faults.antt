@@ -4,8 +4,10 @@ use Rattle.std.specs.Prelude.{Bool, true, false, Option, Some, None}
 use Rattle.acpc_game.specs.declared.fault.AcpcFault.{AcpcFault}
 use Rattle.acpc_game.specs.declared.fault.AcpcFault.TheVariants as in_acpc
 use Rattle.first_fault.specs.declared.limits.Quantity.{Quantity}
+use Rattle.ohh_members.specs.declared.fault.MemberFaultKind.TheVariants as at_member
 use Rattle.ohh_reading.specs.declared.fault.OhhFault.{OhhFault}
 use Rattle.ohh_reading.specs.declared.fault.OhhFault.TheVariants as in_ohh
+use Rattle.phh_reading.specs.declared.field_fault.FieldFaultKind.TheVariants as at_key
 use Rattle.phh_reading.specs.declared.fault.PhhFault.{PhhFault}
 use Rattle.phh_reading.specs.declared.fault.PhhFault.TheVariants as in_phh
 use Rattle.convert_core.specs.declared.format_fault.FormatFault.{FormatFault}
@@ -34,12 +36,12 @@ is_out_of_memory (formats.Acpc fault) = is_out_of_memory_in_acpc fault
 
 -- what hand histories have too many of, if that is the fault
 abbrev pub excess_in_phh : PhhFault → Option Quantity
-excess_in_phh (in_phh.TooMany hand key quantity) = Some quantity
+excess_in_phh (in_phh.InHand hand key (at_key.TooMany quantity)) = Some quantity
 excess_in_phh fault = None
 
 -- the same of Open Hand History
 abbrev pub excess_in_ohh : OhhFault → Option Quantity
-excess_in_ohh (in_ohh.TooMany hand path quantity) = Some quantity
+excess_in_ohh (in_ohh.InHand hand path (at_member.TooMany quantity)) = Some quantity
 excess_in_ohh fault = None
 
 -- the same of logs

@@ -7,8 +7,6 @@ use Rattle.hand_canon.specs.declared.record.Record.{Record}
 use Rattle.hand_canon.specs.declared.trace.Play.{Play}
 use Rattle.ohh_format.specs.Again.{hands_again}
 use Rattle.ohh_members.specs.declared.dialect.Dialect.{Dialect}
-use Rattle.ohh_members.specs.declared.fault.MemberFaultKind.{MemberFaultKind}
-use Rattle.ohh_members.specs.declared.fault.MemberFaultKind.TheVariants as whats
 use Rattle.ohh_reading.specs.Reading.{InHand, NoText, Wrong, reading, wrong_of}
 use Rattle.ohh_reading.specs.declared.fault.OhhFault.{OhhFault}
 use Rattle.ohh_reading.specs.declared.fault.OhhFault.TheVariants as faults
@@ -47,33 +45,14 @@ read_again dialect bytes plays read =
       counted = again_counted dialect 0 plays;
     }
 
--- the fault of a hand at a member
-abbrev at_member : ℕ → List ℕ → MemberFaultKind → OhhFault
-at_member hand path whats.MissingMember = faults.MissingMember hand path
-at_member hand path whats.WrongType = faults.WrongType hand path
-at_member hand path whats.AmountNotWhole = faults.AmountNotWhole hand path
-at_member hand path whats.AmountLimit = faults.AmountLimit hand path
-at_member hand path whats.UnsupportedGame = faults.UnsupportedGame hand path
-at_member hand path whats.BadPlayer = faults.BadPlayer hand path
-at_member hand path whats.UnsupportedAction = faults.UnsupportedAction hand path
-at_member hand path whats.BadStreet = faults.BadStreet hand path
-at_member hand path whats.BadPost = faults.BadPost hand path
-at_member hand path whats.RakePlace = faults.RakePlace hand path
-at_member hand path (whats.TooMany quantity) = faults.TooMany hand path quantity
-
 -- the fault for this mistake
 abbrev fault_of : Wrong → OhhFault
 fault_of (NoText hand) = faults.Text hand
-fault_of (InHand hand path what) = at_member hand path what
-
-member_named : (hand : ℕ) (path : List ℕ) (what : MemberFaultKind)
-    → wrong_of (at_member hand path what) ≡ Some (InHand hand path what)
-member_named hand path (whats.TooMany quantity) = refl
-member_named hand path what = refl
+fault_of (InHand hand path what) = faults.InHand hand path what
 
 fault_named : (wrong : Wrong) → wrong_of (fault_of wrong) ≡ Some wrong
 fault_named (NoText hand) = refl
-fault_named (InHand hand path what) = member_named hand path what
+fault_named (InHand hand path what) = refl
 
 -- a fault with this mistake is the one for this mistake
 named_fault : (fault : OhhFault) (wrong : Wrong) → wrong_of fault ≡ Some wrong
@@ -84,7 +63,6 @@ named_fault fault wrong told = ap fault_of (same_Some _ wrong told)
 -- the fault for a mistake is not that memory ran out
 not_out_of_memory : (wrong : Wrong) → is_out_of_memory_in_ohh (fault_of wrong) ≡ false
 not_out_of_memory (NoText hand) = refl
-not_out_of_memory (InHand hand path (whats.TooMany quantity)) = refl
 not_out_of_memory (InHand hand path what) = refl
 
 module _ (dialect : Dialect) (bytes : List ℕ) where

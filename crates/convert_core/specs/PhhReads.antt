@@ -5,8 +5,6 @@ use Rattle.std.proofs.lemmas.List.{length-map}
 use Rattle.std.proofs.lemmas.Option.{same_Some}
 use Rattle.hand_canon.specs.declared.record.Record.{Record}
 use Rattle.hand_canon.specs.declared.trace.Play.{Play}
-use Rattle.phh_reading.specs.declared.field_fault.FieldFaultKind.{FieldFaultKind}
-use Rattle.phh_reading.specs.declared.field_fault.FieldFaultKind.TheVariants as whats
 use Rattle.phh_format.specs.Again.{hands_again}
 use Rattle.phh_reading.specs.Reading.{InHand, NoDocument, Wrong, reading, wrong_of}
 use Rattle.phh_reading.specs.declared.fault.PhhFault.{PhhFault}
@@ -41,31 +39,14 @@ pub read_again : (bytes : List ℕ) (plays : List Play) → reading bytes ≡ Ok
 read_again bytes plays read =
     record { hands = hands_again 0 plays; reads = read; counted = again_counted 0 plays }
 
--- the fault of a hand at a key
-abbrev at_field : ℕ → List ℕ → FieldFaultKind → PhhFault
-at_field hand key whats.MissingField = faults.MissingField hand key
-at_field hand key whats.WrongType = faults.WrongType hand key
-at_field hand key whats.AmountNotWhole = faults.AmountNotWhole hand key
-at_field hand key whats.AmountLimit = faults.AmountLimit hand key
-at_field hand key whats.UnknownVariant = faults.UnknownVariant hand key
-at_field hand key whats.SeatCount = faults.SeatCount hand key
-at_field hand key whats.ListLength = faults.ListLength hand key
-at_field hand key whats.BadAction = faults.BadAction hand key
-at_field hand key (whats.TooMany quantity) = faults.TooMany hand key quantity
-
 -- the fault for this mistake
 abbrev fault_of : Wrong → PhhFault
 fault_of NoDocument = faults.Text
-fault_of (InHand hand key what) = at_field hand key what
-
-field_named : (hand : ℕ) (key : List ℕ) (what : FieldFaultKind)
-    → wrong_of (at_field hand key what) ≡ Some (InHand hand key what)
-field_named hand key (whats.TooMany quantity) = refl
-field_named hand key what = refl
+fault_of (InHand hand key what) = faults.InHand hand key what
 
 fault_named : (wrong : Wrong) → wrong_of (fault_of wrong) ≡ Some wrong
 fault_named NoDocument = refl
-fault_named (InHand hand key what) = field_named hand key what
+fault_named (InHand hand key what) = refl
 
 -- a fault with this mistake is the one for this mistake
 named_fault : (fault : PhhFault) (wrong : Wrong) → wrong_of fault ≡ Some wrong
@@ -76,7 +57,6 @@ named_fault fault wrong told = ap fault_of (same_Some _ wrong told)
 -- the fault for a mistake is not that memory ran out
 not_out_of_memory : (wrong : Wrong) → is_out_of_memory_in_phh (fault_of wrong) ≡ false
 not_out_of_memory NoDocument = refl
-not_out_of_memory (InHand hand key (whats.TooMany quantity)) = refl
 not_out_of_memory (InHand hand key what) = refl
 
 -- a fault of bytes is the one for their mistake

@@ -8,7 +8,9 @@ use acpc_format::AcpcFault;
 use card_set::Memory;
 use first_fault::Quantity;
 use ohh_format::OhhFault;
+use ohh_members::fault::MemberFaultKind;
 use phh_format::PhhFault;
+use phh_reading::field_fault::FieldFaultKind;
 use std::fmt;
 
 /// The first fault of bytes in their notation.
@@ -37,8 +39,14 @@ impl FormatFault {
         ensures { result ≡ excess_of self.now }
     {
         match self {
-            FormatFault::Phh(PhhFault::TooMany { quantity, .. }) => Some(*quantity),
-            FormatFault::Ohh(OhhFault::TooMany { quantity, .. }) => Some(*quantity),
+            FormatFault::Phh(PhhFault::InHand {
+                what: FieldFaultKind::TooMany { quantity },
+                ..
+            }) => Some(*quantity),
+            FormatFault::Ohh(OhhFault::InHand {
+                what: MemberFaultKind::TooMany { quantity },
+                ..
+            }) => Some(*quantity),
             FormatFault::Acpc(AcpcFault::TooMany { quantity, .. }) => Some(*quantity),
             _ => None,
         }

@@ -1,4 +1,5 @@
 -- The members of a hand in Open Hand History.
+pub mod FaultNames
 pub mod Paths
 pub mod Values
 pub mod Game

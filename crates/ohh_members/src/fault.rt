@@ -2,6 +2,7 @@
 //! are examined.
 ghost use Rattle.std.specs.Prelude.{◌≡◌, ◌++◌, IfOk, codes, string_bytes};
 ghost use Rattle.std.specs.Fmt.{decimal};
+ghost use Rattle.ohh_members.specs.FaultNames.{what_name};
 ghost use Rattle.ohh_members.specs.Paths.{action_name, action_text, card_path, member_name, path_text, player_name, pot_name, pot_text, round_name, round_text, win_name, with_point};
 
 use card_set::{Memory, string_from, try_format};
@@ -33,6 +34,27 @@ pub enum MemberFaultKind {
     RakePlace,
     /// There is more than the limit of the quantity allows.
     TooMany { quantity: Quantity },
+}
+
+impl MemberFaultKind {
+    /// The name of what is wrong.
+    pub fn name(self) -> &'static str
+        ensures { result.now ≡ what_name self }
+    {
+        match self {
+            MemberFaultKind::MissingMember => "MissingMember",
+            MemberFaultKind::WrongType => "WrongType",
+            MemberFaultKind::AmountNotWhole => "AmountNotWhole",
+            MemberFaultKind::AmountLimit => "AmountLimit",
+            MemberFaultKind::UnsupportedGame => "UnsupportedGame",
+            MemberFaultKind::BadPlayer => "BadPlayer",
+            MemberFaultKind::UnsupportedAction => "UnsupportedAction",
+            MemberFaultKind::BadStreet => "BadStreet",
+            MemberFaultKind::BadPost => "BadPost",
+            MemberFaultKind::RakePlace => "RakePlace",
+            MemberFaultKind::TooMany { .. } => "TooMany",
+        }
+    }
 }
 
 /// A member of a player, or the player itself.

@@ -77,17 +77,7 @@ reading dialect bytes = hands_said dialect (blocks_of bytes) >>= λ found. Ok fo
 -- what is wrong, unless memory ran out
 abbrev pub wrong_of : OhhFault → Option Wrong
 wrong_of (faults.Text hand) = Some (NoText hand)
-wrong_of (faults.MissingMember hand path) = Some (InHand hand path whats.MissingMember)
-wrong_of (faults.WrongType hand path) = Some (InHand hand path whats.WrongType)
-wrong_of (faults.AmountNotWhole hand path) = Some (InHand hand path whats.AmountNotWhole)
-wrong_of (faults.AmountLimit hand path) = Some (InHand hand path whats.AmountLimit)
-wrong_of (faults.UnsupportedGame hand path) = Some (InHand hand path whats.UnsupportedGame)
-wrong_of (faults.BadPlayer hand path) = Some (InHand hand path whats.BadPlayer)
-wrong_of (faults.UnsupportedAction hand path) = Some (InHand hand path whats.UnsupportedAction)
-wrong_of (faults.BadStreet hand path) = Some (InHand hand path whats.BadStreet)
-wrong_of (faults.BadPost hand path) = Some (InHand hand path whats.BadPost)
-wrong_of (faults.RakePlace hand path) = Some (InHand hand path whats.RakePlace)
-wrong_of (faults.TooMany hand path quantity) = Some (InHand hand path (whats.TooMany quantity))
+wrong_of (faults.InHand hand path what) = Some (InHand hand path what)
 wrong_of (faults.Memory memory) = None
 
 -- this fault is what is read; nothing is claimed if memory ran out

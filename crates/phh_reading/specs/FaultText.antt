@@ -18,12 +18,6 @@ what_name whats.ListLength = codes "ListLength"
 what_name whats.BadAction = codes "BadAction"
 what_name (whats.TooMany quantity) = codes "TooMany"
 
--- the name of what is wrong, or that memory ran out
-abbrev pub name_of : Option Wrong → List ℕ
-name_of None = codes "Memory"
-name_of (Some NoDocument) = codes "Text"
-name_of (Some (InHand hand key what)) = what_name what
-
 -- what is wrong as text: the hand, the key and the name; or that memory ran out
 abbrev pub wrong_text : Option Wrong → List ℕ
 wrong_text None = codes "out of memory"

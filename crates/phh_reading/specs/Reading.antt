@@ -81,15 +81,7 @@ reading bytes = document_said (document_of bytes)
 -- what is wrong, unless memory ran out
 abbrev pub wrong_of : PhhFault → Option Wrong
 wrong_of faults.Text = Some NoDocument
-wrong_of (faults.MissingField hand key) = Some (InHand hand key whats.MissingField)
-wrong_of (faults.WrongType hand key) = Some (InHand hand key whats.WrongType)
-wrong_of (faults.AmountNotWhole hand key) = Some (InHand hand key whats.AmountNotWhole)
-wrong_of (faults.AmountLimit hand key) = Some (InHand hand key whats.AmountLimit)
-wrong_of (faults.UnknownVariant hand key) = Some (InHand hand key whats.UnknownVariant)
-wrong_of (faults.SeatCount hand key) = Some (InHand hand key whats.SeatCount)
-wrong_of (faults.ListLength hand key) = Some (InHand hand key whats.ListLength)
-wrong_of (faults.BadAction hand key) = Some (InHand hand key whats.BadAction)
-wrong_of (faults.TooMany hand key quantity) = Some (InHand hand key (whats.TooMany quantity))
+wrong_of (faults.InHand hand key what) = Some (InHand hand key what)
 wrong_of (faults.Memory memory) = None
 
 -- this fault is what is read; nothing is claimed if memory ran out

@@ -1,6 +1,7 @@
 //! What is wrong with a hand, and where: the first fault in the order in which fields are examined.
 ghost use Rattle.std.specs.Prelude.{◌≡◌, IfOk};
 ghost use Rattle.phh_reading.specs.Events.{action_fault};
+ghost use Rattle.phh_reading.specs.FaultText.{what_name};
 ghost use Rattle.phh_reading.specs.Fields.{key_text};
 ghost use Rattle.phh_reading.specs.Fields as fields;
 
@@ -30,6 +31,25 @@ pub enum FieldFaultKind {
     BadAction,
     /// There is more than the limit of the quantity allows.
     TooMany { quantity: Quantity },
+}
+
+impl FieldFaultKind {
+    /// The name of what is wrong.
+    pub fn name(self) -> &'static str
+        ensures { result.now ≡ what_name self }
+    {
+        match self {
+            FieldFaultKind::MissingField => "MissingField",
+            FieldFaultKind::WrongType => "WrongType",
+            FieldFaultKind::AmountNotWhole => "AmountNotWhole",
+            FieldFaultKind::AmountLimit => "AmountLimit",
+            FieldFaultKind::UnknownVariant => "UnknownVariant",
+            FieldFaultKind::SeatCount => "SeatCount",
+            FieldFaultKind::ListLength => "ListLength",
+            FieldFaultKind::BadAction => "BadAction",
+            FieldFaultKind::TooMany { .. } => "TooMany",
+        }
+    }
 }
 
 impl From<ActionFault> for FieldFaultKind {
