@@ -43,6 +43,7 @@ module _ {n : Meaning} (law : Lawful n) where
       → AreReadBack n n.kept plays output → AreReadBack n (kept_notes keep n.kept) plays output
   kept_back keep plays output few sound none back =
       record {
+        hands = back.hands;
         read = back.read;
         no_fault = back.no_fault;
         again = λ hands say. hands_kept keep 0 plays hands (omega (arith, few)) sound (each_spelled (n.unspelled keep) 1 plays none) (back.again hands say);

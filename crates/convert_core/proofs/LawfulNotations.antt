@@ -173,7 +173,7 @@ read_again n kept plays others bytes back read =
 
 -- and they have no refused hand
 pub never_refused : (n : Meaning) {keeps : ℕ → ℕ → Notes → Notes → Type 0} (plays : List Play) (bytes : List ℕ) (number : ℕ) (why : Refusal)
-    → ReadBack (n.Say bytes) (n.ReadAsHands bytes) (n.HaveFault bytes) keeps plays → ReadAsRefused (n.Say bytes) number why → ⊥
+    → ReadBack (n.Say bytes) (n.ReadAsHandsOf bytes) (n.ReadAsHands bytes) (n.HaveFault bytes) keeps plays → ReadAsRefused (n.Say bytes) number why → ⊥
 never_refused n {keeps} plays bytes number why back refused =
     let again = back.again refused.records refused.say in
     not_both refused.records (again_plays plays refused.records) number why (again_are keeps 0 plays refused.records again) refused.first

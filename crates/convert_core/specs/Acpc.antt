@@ -2,6 +2,7 @@
 -- are written for plays.
 use Rattle.std.specs.Prelude.{◌≡◌, ℕ, ◌≤◌, true, false, List, length, map, Ok, Err, sum_by}
 use Rattle.std.specs.List.{AllByRecursion}
+use Rattle.acpc_format.specs.Again.{hands_again}
 use Rattle.acpc_format.specs.KeptNotes.{kept_in_acpc}
 use Rattle.acpc_game.specs.declared.game.Game.{Game}
 use Rattle.acpc_format.specs.Line.{log_text}
@@ -33,6 +34,10 @@ pub record Say (game : Game) (bytes : List ℕ) (records : List Record) : Type 0
 abbrev pub ReadAsHands : Game → List ℕ → ℕ → Type 0
 ReadAsHands game bytes count = GivesHands (reading game bytes) count
 
+-- bytes are read as the hands of these plays under a game
+abbrev pub ReadAsHandsOf : Game → List ℕ → List Play → Type 0
+ReadAsHandsOf game bytes plays = reading game bytes ≡ Ok (hands_again game.no_limit 0 plays)
+
 -- bytes have this first fault, which is not that memory ran out
 pub record Have (game : Game) (bytes : List ℕ) (fault : AcpcFault) : Type 0 where
   pub told : is_out_of_memory_in_acpc fault ≡ false
@@ -54,6 +59,7 @@ meaning game =
     record {
       rules = rules_of game;
       Say = Say game;
+      ReadAsHandsOf = ReadAsHandsOf game;
       ReadAsHands = ReadAsHands game;
       HaveFault = HaveFault game;
       first_lines = hand_lines;

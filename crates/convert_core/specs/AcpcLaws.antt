@@ -32,7 +32,7 @@ use Rattle.hand_canon.specs.declared.record.Record.{Record}
 use Rattle.hand_canon.specs.declared.trace.Play.{Play}
 use Rattle.hand_canon.specs.declared.writing.Keep.{Keep}
 use Rattle.hand_canon.specs.declared.writing.Unspelled.{Unspelled}
-use Rattle.convert_core.specs.Acpc.{HaveFault, ReadAsHands, Say, Spell, meaning}
+use Rattle.convert_core.specs.Acpc.{HaveFault, ReadAsHands, ReadAsHandsOf, Say, Spell, meaning}
 use Rattle.convert_core.specs.AcpcAlike.{one_reading}
 use Rattle.convert_core.specs.AcpcReads.{none_of_read, read_again, read_or_fail, say_as_many}
 use Rattle.convert_core.specs.KeptParts as parts
@@ -94,6 +94,7 @@ lines_back : (game : Game) (keep : Keep) (plays : List Play) → AreFew plays
     → AllByRecursion IsSound plays → AllByRecursion HasTexts plays
     → first_refusal (facts.unspelled game keep) plays ≡ None
     → ReadBack (Say game (log_text game.no_limit plays))
+    (ReadAsHandsOf game (log_text game.no_limit plays))
     (ReadAsHands game (log_text game.no_limit plays))
     (HaveFault game (log_text game.no_limit plays)) (KeepsNotes kept_in_acpc) plays
 lines_back game keep plays few sound texts spelled =
@@ -104,6 +105,7 @@ lines_back game keep plays few sound texts spelled =
     reading game (log_text game.no_limit plays) ≡ Ok (hands_again game.no_limit 0 plays) =
     sound_again game keep plays few.few sound texts none moves in
     record {
+      hands = read;
       read = read_again game (log_text game.no_limit plays) plays read;
       no_fault =
           λ fault have.
@@ -155,13 +157,13 @@ one_line_more game before play place old new many spell with_line one =
 pub reads_back : (game : Game) (keep : Keep) (plays : List Play) (bytes : List ℕ) → AreFew plays
     → AllByRecursion IsSound plays → first_refusal (facts.unspelled game keep) plays ≡ None
     → Spell game plays bytes
-    → ReadBack (Say game bytes) (ReadAsHands game bytes) (HaveFault game bytes)
-    (KeepsNotes kept_in_acpc) plays
+    → ReadBack (Say game bytes) (ReadAsHandsOf game bytes) (ReadAsHands game bytes)
+    (HaveFault game bytes) (KeepsNotes kept_in_acpc) plays
 reads_back game keep plays bytes few sound spelled spell =
     subst
     (λ (written : List ℕ).
-    ReadBack (Say game written) (ReadAsHands game written) (HaveFault game written)
-    (KeepsNotes kept_in_acpc) plays)
+    ReadBack (Say game written) (ReadAsHandsOf game written) (ReadAsHands game written)
+    (HaveFault game written) (KeepsNotes kept_in_acpc) plays)
     (sym spell.lines)
     (lines_back game keep plays few sound spell.texts spelled)
 

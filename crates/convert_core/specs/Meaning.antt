@@ -15,6 +15,9 @@ pub record Meaning : Type 1 where
   pub rules : Rules
   -- the bytes say these records
   pub Say : List ℕ → List Record → Type 0
+  -- the bytes are read as the hands of these plays, as it keeps them: with their setups, scripts,
+  -- results and notes
+  pub ReadAsHandsOf : List ℕ → List Play → Type 0
   -- the bytes read as this number of hands
   pub ReadAsHands : List ℕ → ℕ → Type 0
   -- the bytes cannot be read, and this is their first fault
@@ -35,4 +38,5 @@ pub record Meaning : Type 1 where
 -- bytes read back as plays, with these of their notes
 abbrev pub AreReadBack : Meaning → (kept : SaidNotes → SaidNotes) → List Play → List ℕ → Type 0
 AreReadBack to kept plays bytes =
-    ReadBack (to.Say bytes) (to.ReadAsHands bytes) (to.HaveFault bytes) (KeepsNotes kept) plays
+    ReadBack (to.Say bytes) (to.ReadAsHandsOf bytes) (to.ReadAsHands bytes) (to.HaveFault bytes)
+    (KeepsNotes kept) plays

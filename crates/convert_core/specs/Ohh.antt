@@ -1,6 +1,7 @@
 -- What bytes say in Open Hand History in a dialect, and which bytes are written for plays.
 use Rattle.std.specs.Prelude.{◌≡◌, ℕ, ◌≤◌, true, List, length, map, Some, Ok, Err, sum_by}
 use Rattle.std.specs.List.{AllByRecursion}
+use Rattle.ohh_format.specs.Again.{hands_again}
 use Rattle.first_fault.specs.declared.limits.TheConstants.{MOST_FILE_MOVES, MOST_HANDS}
 use Rattle.hand_canon.specs.declared.record.Record.{Record}
 use Rattle.hand_canon.specs.declared.trace.Play.{Play}
@@ -32,6 +33,10 @@ pub record Say (dialect : Dialect) (bytes : List ℕ) (records : List Record) : 
 abbrev pub ReadAsHands : Dialect → List ℕ → ℕ → Type 0
 ReadAsHands dialect bytes count = GivesHands (reading dialect bytes) count
 
+-- bytes are read as the hands of these plays in a dialect
+abbrev pub ReadAsHandsOf : Dialect → List ℕ → List Play → Type 0
+ReadAsHandsOf dialect bytes plays = reading dialect bytes ≡ Ok (hands_again dialect 0 plays)
+
 -- bytes have this first fault
 pub record Have (dialect : Dialect) (bytes : List ℕ) (fault : OhhFault) : Type 0 where
   pub wrong : Wrong
@@ -53,6 +58,7 @@ meaning dialect =
     record {
       rules = history_rules;
       Say = Say dialect;
+      ReadAsHandsOf = ReadAsHandsOf dialect;
       ReadAsHands = ReadAsHands dialect;
       HaveFault = HaveFault dialect;
       first_lines = block_lines;

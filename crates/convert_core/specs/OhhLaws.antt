@@ -27,7 +27,7 @@ use Rattle.convert_core.specs.ReadBack.{ReadBack}
 use Rattle.convert_core.specs.Records.{AreFew, AreOfFile}
 use Rattle.convert_core.specs.KeptParts as parts
 use Rattle.convert_core.specs.Lawful.{Lawful}
-use Rattle.convert_core.specs.Ohh.{HaveFault, ReadAsHands, Say, Spell, meaning}
+use Rattle.convert_core.specs.Ohh.{HaveFault, ReadAsHands, ReadAsHandsOf, Say, Spell, meaning}
 use Rattle.convert_core.specs.OhhAlike.{one_reading}
 use Rattle.convert_core.specs.OhhReads.{none_of_read, read_again, read_or_fail, say_as_many}
 use Rattle.convert_core.specs.declared.format_fault.FormatFault.{FormatFault}
@@ -56,13 +56,14 @@ no_lines dialect = record { lines = refl; trees = tt }
 pub reads_back : (dialect : Dialect) (keep : Keep) (plays : List Play) (bytes : List ℕ)
     → AreFew plays → AllByRecursion IsSound plays
     → first_refusal (facts.unspelled keep) plays ≡ None → Spell dialect plays bytes
-    → ReadBack (Say dialect bytes) (ReadAsHands dialect bytes) (HaveFault dialect bytes)
-    (KeepsNotes kept_in_ohh) plays
+    → ReadBack (Say dialect bytes) (ReadAsHandsOf dialect bytes) (ReadAsHands dialect bytes)
+    (HaveFault dialect bytes) (KeepsNotes kept_in_ohh) plays
 reads_back dialect keep plays bytes few sound spelled spell =
     let unrefused = spelled in
     let read : reading dialect bytes ≡ Ok (hands_again dialect 0 plays) =
     sound_again dialect keep plays bytes few.few sound unrefused few.few_moves spell in
     record {
+      hands = read;
       read = read_again dialect bytes plays read;
       no_fault =
           λ fault have.

@@ -1,6 +1,7 @@
 -- What bytes say in the Poker Hand History format, and which bytes are written for plays.
 use Rattle.std.specs.Prelude.{◌≡◌, ℕ, ◌≤◌, false, List, [], length, map, Some, Ok, Err, sum_by}
 use Rattle.std.specs.List.{AllByRecursion}
+use Rattle.phh_format.specs.Again.{hands_again}
 use Rattle.first_fault.specs.declared.limits.TheConstants.{MOST_FILE_MOVES, MOST_HANDS}
 use Rattle.hand_canon.specs.declared.record.Record.{Record}
 use Rattle.hand_canon.specs.declared.trace.Play.{Play}
@@ -31,6 +32,10 @@ pub record Say (bytes : List ℕ) (records : List Record) : Type 0 where
 abbrev pub ReadAsHands : List ℕ → ℕ → Type 0
 ReadAsHands bytes count = GivesHands (reading bytes) count
 
+-- bytes are read as the hands of these plays
+abbrev pub ReadAsHandsOf : List ℕ → List Play → Type 0
+ReadAsHandsOf bytes plays = reading bytes ≡ Ok (hands_again 0 plays)
+
 -- bytes have this first fault
 pub record Have (bytes : List ℕ) (fault : PhhFault) : Type 0 where
   pub wrong : Wrong
@@ -55,6 +60,7 @@ meaning =
     record {
       rules = history_rules;
       Say = Say;
+      ReadAsHandsOf = ReadAsHandsOf;
       ReadAsHands = ReadAsHands;
       HaveFault = HaveFault;
       first_lines = λ _. [];

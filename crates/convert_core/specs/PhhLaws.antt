@@ -20,7 +20,7 @@ use Rattle.phh_reading.specs.Reading.{reading}
 use Rattle.phh_format.specs.Spelled as facts
 use Rattle.convert_core.specs.KeptParts as parts
 use Rattle.convert_core.specs.Lawful.{Lawful}
-use Rattle.convert_core.specs.Phh.{HaveFault, ReadAsHands, Say, Spell, meaning}
+use Rattle.convert_core.specs.Phh.{HaveFault, ReadAsHands, ReadAsHandsOf, Say, Spell, meaning}
 use Rattle.convert_core.specs.PhhAlike.{one_reading}
 use Rattle.convert_core.specs.PhhReads.{none_of_read, read_again, read_or_fail, say_as_many}
 use Rattle.convert_core.specs.PlainFacts.{no_note_in_phh}
@@ -46,11 +46,13 @@ no_fault bytes hands fault say have = none_of_read bytes (map plain hands) fault
 -- what is written reads back
 pub reads_back : (plays : List Play) (bytes : List ℕ) → AreFew plays → AllByRecursion IsSound plays
     → first_refusal facts.unspelled plays ≡ None → Spell plays bytes
-    → ReadBack (Say bytes) (ReadAsHands bytes) (HaveFault bytes) (KeepsNotes kept_in_phh) plays
+    → ReadBack (Say bytes) (ReadAsHandsOf bytes) (ReadAsHands bytes) (HaveFault bytes)
+    (KeepsNotes kept_in_phh) plays
 reads_back plays bytes few sound spelled spell =
     let read : reading bytes ≡ Ok (hands_again 0 plays) =
     sound_again plays bytes few.few sound few.few_moves spell.document in
     record {
+      hands = read;
       read = read_again bytes plays read;
       no_fault = λ fault have. none_of_read bytes (hands_again 0 plays) fault read have;
       again =
