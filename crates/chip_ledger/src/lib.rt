@@ -11,7 +11,7 @@ pub mod shares;
 pub mod sums;
 
 pub use live_row::LiveRow;
-pub use numbers::{Chips, MOST_CHIPS, Seat};
+pub use numbers::{Chips, MOST_CHIPS, Seat, law_of_limits};
 pub use player_count::PlayerCount;
 pub use pots::{Pot, PotRow};
 pub use rakes::RakeRow;

@@ -5,6 +5,11 @@ ghost use Rattle.chip_ledger.specs.declared.numbers.TheConstants.{MOST_CHIPS};
 /// The greatest amount of chips that a setup or an event may state.
 pub const MOST_CHIPS: u64 = 1_000_000_000_000;
 
+/// The greatest amount is this number. The function does nothing: its contract is a law.
+pub fn law_of_limits()
+    ensures chips { MOST_CHIPS ≡ 1000000000000 }
+{}
+
 /// A seat of a hand, numbered from 1.
 #[derive(Clone, Copy, Debug, PartialEq, Eq, PartialOrd, Ord, Hash)]
 pub struct Seat {

@@ -11,7 +11,7 @@ mod words;
 
 pub use bounds::{has_count, in_range, saturating_u32};
 pub use digits::{is_all_digits, read_digits};
-pub use limits::{MOST_FILE_MOVES, MOST_HANDS, MOST_TEXT_BYTES, Quantity};
+pub use limits::{MOST_FILE_MOVES, MOST_HANDS, MOST_TEXT_BYTES, Quantity, law_of_limits};
 pub use stop::ReadError;
 pub use text::Text;
 pub use words::{next_word, position_of};

@@ -1,5 +1,6 @@
 //! The limits of what is read, except those of a hand. Each is a decision of this project.
-ghost use Rattle.std.specs.Prelude.{Some};
+ghost use Rattle.std.specs.Prelude.{◌≡◌, Some};
+ghost use Rattle.first_fault.specs.declared.limits.TheConstants.{MOST_FILE_MOVES, MOST_HANDS, MOST_TEXT_BYTES};
 ghost use Rattle.first_fault.specs.Quantities.{quantity_text};
 
 use std::fmt;
@@ -12,6 +13,13 @@ pub const MOST_FILE_MOVES: usize = 1_048_576;
 
 /// The most bytes of the text of a note.
 pub const MOST_TEXT_BYTES: usize = 255;
+
+/// The limits are these numbers. The function does nothing: its contract is a law.
+pub fn law_of_limits()
+    ensures hands { MOST_HANDS ≡ 65536 }
+    ensures file_moves { MOST_FILE_MOVES ≡ 1048576 }
+    ensures text_bytes { MOST_TEXT_BYTES ≡ 255 }
+{}
 
 /// What a file may have too many of.
 #[derive(Clone, Copy, Debug, PartialEq, Eq)]

@@ -23,7 +23,7 @@ mod up_cards;
 pub use code::Code;
 pub use cursor::Cursor;
 pub use event::{Event, Kind, Spelled};
-pub use hand_limits::{MOST_MOVES, MOST_OTHER_EVENTS};
+pub use hand_limits::{MOST_MOVES, MOST_OTHER_EVENTS, law_of_limits};
 pub use hands::HandRow;
 pub use laws::{
     law_of_chips, law_of_floors, law_of_movers, law_of_places, law_of_raises, law_of_reasons,
