@@ -66,6 +66,14 @@ impl PushTo for i64 {
     }
 }
 
+impl PushTo for i128 {
+    ghost text_of = { signed_decimal };
+
+    fn push_to(&self, text: &mut String) -> Result<(), Memory> {
+        text.try_write_fmt(*self)
+    }
+}
+
 impl PushTo for &str {
     ghost text_of = { λ text. text.now };
 

@@ -5,7 +5,7 @@ ghost use Rattle.std.specs.Fmt.{decimal};
 ghost use Rattle.ohh_members.specs.FaultNames.{what_name};
 ghost use Rattle.ohh_members.specs.Paths.{action_name, action_text, card_path, member_name, path_text, player_name, pot_name, pot_text, round_name, round_text, win_name, with_point};
 
-use card_set::{Memory, string_from, try_format};
+use card_set::{Memory, string_from, try_text};
 use first_fault::{Quantity, Text};
 use std::alloc::Global;
 
@@ -166,7 +166,7 @@ impl ActionMember {
         ensures { IfOk result (λ text. string_bytes text ≡ action_text self) }
     {
         match self {
-            ActionMember::Card { index } => try_format!(in alloc; ".cards[{index}]"),
+            ActionMember::Card { index } => try_text!(in alloc; ".cards[", index, "]"),
             _ => behind_point(alloc, self.name()),
         }
     }
@@ -192,7 +192,7 @@ impl RoundMember {
         ensures { IfOk result (λ text. string_bytes text ≡ round_text self) }
     {
         match self {
-            RoundMember::Card { index } => try_format!(in alloc; ".cards[{index}]"),
+            RoundMember::Card { index } => try_text!(in alloc; ".cards[", index, "]"),
             RoundMember::Action { index, member } => {
                 item_text(alloc, ".actions[", index, member.text(alloc)?)
             }
@@ -331,10 +331,7 @@ impl Path {
             Path::Pot { index, member } => {
                 item_text(alloc, "ohh.pots[", index, member.text(alloc)?)
             }
-            _ => {
-                let name = self.name();
-                try_format!(in alloc; "ohh.{name}")
-            }
+            _ => try_text!(in alloc; "ohh.", self.name()),
         }
     }
 
@@ -354,7 +351,7 @@ fn behind_point(alloc: Global, name: &str) -> Result<String, Memory>
     if name.is_empty() {
         string_from(alloc, "")
     } else {
-        try_format!(in alloc; ".{name}")
+        try_text!(in alloc; ".", name)
     }
 }
 
@@ -363,5 +360,5 @@ fn item_text(alloc: Global, list: &str, index: u64, text: String) -> Result<Stri
     ensures { IfOk result (λ item. string_bytes item
         ≡ list.now ++ (decimal index ++ (codes "]" ++ string_bytes text))) }
 {
-    try_format!(in alloc; "{list}{index}]{text}")
+    try_text!(in alloc; list, index, "]", text.as_str())
 }

@@ -12,7 +12,7 @@ ghost use Rattle.ohh_members.specs.Values as values;
 
 use crate::moment::read_moment;
 use crate::texts::{label_at, text_at};
-use card_set::displayed;
+use card_set::text_from;
 use first_fault::{ReadError, Text};
 use hand_canon::{Moment, TextNotes};
 use ohh_members::fault::{MemberFault, Path};
@@ -40,7 +40,7 @@ pub fn read_labels(
     ensures said { Gives (λ labels. labels) result (labels_said place seats (view ohh.now)) }
     ensures fit { IfOk result (AreLabels seats) }
 {
-    let usual = displayed(alloc, place)?;
+    let usual = text_from(alloc, place)?;
     let hand = label_at(alloc, ohh, Path::GameNumber, usual.as_str())?;
     let table = text_at(alloc, ohh, Path::TableName)?;
     let seat_count = seat_count_at(ohh, seats)?;

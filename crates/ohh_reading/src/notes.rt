@@ -10,7 +10,7 @@ ghost use Rattle.ohh_members.specs.Players.{plain_player};
 ghost use Rattle.chip_ledger.specs.SeatsSaid.{default_name};
 
 use crate::labels::{Labels, read_labels};
-use card_set::{Memory, try_format};
+use card_set::{Memory, try_text};
 use first_fault::{ReadError, Text};
 use hand_canon::{Clock, Moment, Notes, keep_short, omit_default_seats};
 use ohh_members::fault::MemberFault;
@@ -81,7 +81,7 @@ fn make_player_name(alloc: Global, player: &Player, seat: u8) -> Result<Option<T
 {
     match player.name {
         Some(name) => {
-            let usual = try_format!(in alloc; "p{seat}")?;
+            let usual = try_text!(in alloc; "p", seat)?;
             keep_short(alloc, name, usual.as_str())
         }
         None => Ok(None),

@@ -6,7 +6,7 @@ ghost use Rattle.first_fault.specs.Reading.{Gives, or_none};
 ghost use Rattle.ohh_reading.specs.Notes.{label_said, text_note_said};
 ghost use Rattle.ohh_members.specs.Values as values;
 
-use card_set::displayed;
+use card_set::text_from;
 use first_fault::{Quantity, ReadError, Text};
 use hand_canon::keep_text;
 use ohh_members::fault::{MemberFault, MemberFaultKind, Path};
@@ -54,7 +54,7 @@ pub fn label_at(
         Value::String(text) => keep_text(alloc, text.as_str(), default, too_long(path)),
         _ => {
             let number = read_integer(value, path)?;
-            let text = displayed(alloc, number)?;
+            let text = text_from(alloc, number)?;
             keep_text(alloc, text.as_str(), default, too_long(path))
         }
     }

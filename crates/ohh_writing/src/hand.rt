@@ -25,7 +25,7 @@ use crate::seating::{find_seat_number, numbers_to_write};
 use crate::setup::{find_big_blind, find_greatest_ante};
 use crate::tidy_trace::TidyTrace;
 use crate::trees::round_values;
-use card_set::{Memory, displayed};
+use card_set::{Memory, text_from};
 use chip_ledger::Seat;
 use first_fault::Text;
 use hand_canon::{Notes, Play, Trace};
@@ -172,7 +172,7 @@ fn hand_name(alloc: Global, index: usize, name: &Option<Text>) -> Result<Value, 
 {
     match name {
         Some(text) => text_value(alloc, text.as_str()),
-        None => Ok(Value::String(displayed(alloc, index)?)),
+        None => Ok(Value::String(text_from(alloc, index)?)),
     }
 }
 

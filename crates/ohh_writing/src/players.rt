@@ -7,7 +7,7 @@ ghost use Rattle.ohh_writing.specs.Tree.{player_tree, players};
 
 use crate::members::{put_number, put_value};
 use crate::seating::find_seat_number;
-use card_set::{Memory, TryPush, string_from, try_format};
+use card_set::{Memory, TryPush, string_from, try_text};
 use chip_ledger::{Seat, SeatRow};
 use hand_canon::Notes;
 use serde_json::{Map, Value};
@@ -79,6 +79,6 @@ fn name_of(alloc: Global, notes: &Notes, seat: Seat) -> Result<String, Memory>
     let number = seat.number;
     match &notes.names[number as usize - 1] {
         Some(name) => string_from(alloc, name.as_str()),
-        None => try_format!(in alloc; "p{number}"),
+        None => try_text!(in alloc; "p", number),
     }
 }

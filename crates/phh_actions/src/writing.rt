@@ -9,7 +9,7 @@ ghost use Rattle.phh_actions.specs.Written as written;
 ghost use Rattle.play_event.specs.Ranges.{IsInRange};
 ghost use Rattle.chip_ledger.specs.SeatsSaid.{default_name};
 
-use card_set::{Card, Memory, Slot, TryPush, TryWrite, slot_text, string_from, try_format};
+use card_set::{Card, Memory, Slot, TryPush, TryWrite, slot_text, string_from, try_text};
 use chip_ledger::Seat;
 use play_event::{Kind, Spelled};
 use std::alloc::Global;
@@ -39,8 +39,7 @@ fn write_hole(alloc: Global, seat: Seat, slots: &[Slot]) -> Result<String, Memor
     ensures { IfOk result
         (λ text. string_bytes text ≡ written.event_text (Hole seat.number slots.now)) }
 {
-    let number = seat.number();
-    let mut text = try_format!(in alloc; "d dh p{number} ")?;
+    let mut text = try_text!(in alloc; "d dh p", seat.number(), " ")?;
     push_slots(&mut text, slots)?;
     Ok(text)
 }
@@ -60,9 +59,8 @@ fn write_raise(alloc: Global, seat: Seat, amount: Spelled) -> Result<String, Mem
     ensures { IfOk result (λ text. string_bytes text
         ≡ written.event_text (Raise (Some seat.number) amount)) }
 {
-    let number = seat.number();
     match amount {
-        Spelled::To(amount) => try_format!(in alloc; "p{number} cbr {amount}"),
+        Spelled::To(amount) => try_text!(in alloc; "p", seat.number(), " cbr ", amount),
         _ => unreachable!(),
     }
 }
@@ -104,8 +102,7 @@ fn write_show(alloc: Global, seat: Seat, cards: &[Card]) -> Result<String, Memor
 fn write_act(alloc: Global, seat: Seat, act: &str) -> Result<String, Memory>
     ensures { IfOk result (λ text. string_bytes text ≡ default_name seat.number ++ 32 ∷ act.now) }
 {
-    let number = seat.number();
-    try_format!(in alloc; "p{number} {act}")
+    try_text!(in alloc; "p", seat.number(), " ", act)
 }
 
 // The letters of cards.

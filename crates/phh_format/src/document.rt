@@ -13,7 +13,7 @@ use crate::notes::put_notes;
 use crate::played::put_trace;
 use crate::setup::put_setup;
 use crate::spelled::find_refusal;
-use card_set::{Memory, displayed};
+use card_set::{Memory, text_from};
 use hand_canon::{Keep, Play, SoundPlay, SoundPlays, WriteRefusal};
 use std::alloc::Global;
 use toml::ser::Error;
@@ -66,7 +66,7 @@ fn make_document(alloc: Global, plays: &SoundPlays<'_>) -> Result<Table, Memory>
     while left > 0 {
         left -= 1;
         let hand = make_hand(alloc, left, &plays.get(left))?;
-        let key = displayed(alloc, left + 1)?;
+        let key = text_from(alloc, left + 1)?;
         put(alloc, &mut table, key.as_str(), Value::Table(hand))?;
     }
     Ok(table)

@@ -11,7 +11,7 @@ ghost use Rattle.phh_format.specs.HandFields as hand_fields;
 ghost use Rattle.hand_canon.specs.AllowedNotes.{name_written};
 
 use crate::members::{number, put, put_text, text};
-use card_set::{Memory, TryPush, displayed, string_from, try_format};
+use card_set::{Memory, TryPush, string_from, text_from, try_text};
 use chip_ledger::{PlayerCount, Seat};
 use first_fault::{Text, is_all_digits, read_digits};
 use hand_canon::{Clock, Notes};
@@ -135,7 +135,7 @@ fn put_hand_name(
     let Some(name) = name else {
         return Ok(());
     };
-    let default = displayed(alloc, index)?;
+    let default = text_from(alloc, index)?;
     if name.as_str().as_bytes() == default.as_bytes() {
         return Ok(());
     }
@@ -234,6 +234,6 @@ fn name_of(alloc: Global, notes: &Notes, seat: Seat) -> Result<String, Memory>
     let number = seat.number;
     match &notes.names[number as usize - 1] {
         Some(name) => string_from(alloc, name.as_str()),
-        None => try_format!(in alloc; "p{number}"),
+        None => try_text!(in alloc; "p", number),
     }
 }

@@ -5,7 +5,7 @@ ghost use Rattle.phh_reading.specs.FaultText.{what_name};
 ghost use Rattle.phh_reading.specs.Fields.{key_text};
 ghost use Rattle.phh_reading.specs.Fields as fields;
 
-use card_set::{Memory, try_format};
+use card_set::{Memory, try_text};
 use first_fault::{Quantity, Text};
 use phh_actions::ActionFault;
 use std::alloc::Global;
@@ -158,8 +158,7 @@ impl FieldLocation {
         if self.item == 0 {
             return Text::new(alloc, key);
         }
-        let item = self.item;
-        let text = try_format!(in alloc; "{key} {item}")?;
+        let text = try_text!(in alloc; key, " ", self.item)?;
         Text::new(alloc, text.as_str())
     }
 }

@@ -12,7 +12,7 @@ ghost use Rattle.phh_reading.specs.NoteFields.{label_said, labels_said, text_not
 use crate::field_fault::{FieldFault, FieldKey, FieldLocation};
 use crate::texts::{read_label, read_text_note};
 use crate::values::field;
-use card_set::displayed;
+use card_set::text_from;
 use first_fault::{ReadError, Text};
 use hand_canon::TextNotes;
 use std::alloc::Global;
@@ -60,7 +60,7 @@ fn hand_at(alloc: Global, table: &Table, place: u32) -> Result<Option<Text>, Rea
 {
     match field(table, FieldKey::Hand) {
         Some(value) => {
-            let usual = displayed(alloc, place)?;
+            let usual = text_from(alloc, place)?;
             read_label(
                 alloc,
                 value,

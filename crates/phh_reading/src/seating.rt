@@ -13,7 +13,7 @@ use crate::field_fault::{FieldFault, FieldKey, FieldLocation};
 use crate::player_values::PlayerValues;
 use crate::texts::read_text_note;
 use crate::values::{field, read_items, read_number};
-use card_set::try_format;
+use card_set::try_text;
 use chip_ledger::PlayerCount;
 use first_fault::{ReadError, Text};
 use hand_canon::omit_default_seats;
@@ -109,7 +109,7 @@ fn read_name(alloc: Global, value: &Value, seat: u8) -> Result<Option<Text>, Rea
         key: FieldKey::Players,
         item: u64::from(seat),
     };
-    let usual = try_format!(in alloc; "p{seat}")?;
+    let usual = try_text!(in alloc; "p", seat)?;
     read_text_note(alloc, value, usual.as_str(), place)
 }
 

@@ -8,7 +8,7 @@ ghost use Rattle.phh_reading.specs.NoteFields.{label_said, text_note_said};
 
 use crate::field_fault::{FieldFault, FieldFaultKind, FieldLocation};
 use crate::values::{field_fault_at, read_text};
-use card_set::displayed;
+use card_set::text_from;
 use first_fault::{Quantity, ReadError, Text};
 use hand_canon::keep_text;
 use std::alloc::Global;
@@ -43,7 +43,7 @@ pub fn read_label(
     match value {
         Value::String(text) => keep_text(alloc, text.as_str(), default, too_long(place)),
         Value::Integer(number) => {
-            let text = displayed(alloc, number)?;
+            let text = text_from(alloc, number)?;
             keep_text(alloc, text.as_str(), default, too_long(place))
         }
         _ => Err(field_fault_at(FieldFaultKind::WrongType, place)),
