@@ -5,6 +5,7 @@ pub mod Deck
 pub mod Different
 pub mod Filler
 pub mod Known
+pub mod ProcessWords
 pub mod Ranks
 pub mod Row
 pub mod Spelling

@@ -1,9 +1,9 @@
 //! Values that are told as text. Each appends its text to another text, and fails only if memory is
 //! refused.
-ghost use Rattle.std.specs.Prelude.{◌≡◌, ℕ, List, ◌++◌, IfOk, OnOk, string_bytes};
+ghost use Rattle.std.specs.Prelude.{◌≡◌, ℕ, List, ◌++◌, IfOk, OnOk, encode_utf8, string_bytes};
 ghost use Rattle.std.specs.Fmt.{decimal, signed_decimal};
 
-use crate::growing::TryWrite;
+use crate::growing::{TryPush, TryWrite};
 use crate::memory::Memory;
 use std::alloc::Global;
 
@@ -71,6 +71,22 @@ impl PushTo for i128 {
 
     fn push_to(&self, text: &mut String) -> Result<(), Memory> {
         text.try_write_fmt(*self)
+    }
+}
+
+impl PushTo for char {
+    ghost text_of = { encode_utf8 };
+
+    fn push_to(&self, text: &mut String) -> Result<(), Memory> {
+        text.try_push(*self)
+    }
+}
+
+impl PushTo for String {
+    ghost text_of = { string_bytes };
+
+    fn push_to(&self, text: &mut String) -> Result<(), Memory> {
+        text.try_push_str(self.as_str())
     }
 }
 
