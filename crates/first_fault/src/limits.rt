@@ -3,6 +3,7 @@ ghost use Rattle.std.specs.Prelude.{◌≡◌, Some};
 ghost use Rattle.first_fault.specs.declared.limits.TheConstants.{MOST_FILE_MOVES, MOST_HANDS, MOST_TEXT_BYTES};
 ghost use Rattle.first_fault.specs.Quantities.{quantity_text};
 
+use card_set::{Memory, PushTo, TryWrite};
 use std::fmt;
 
 /// The most hands of a file.
@@ -32,6 +33,20 @@ pub enum Quantity {
     FileMoves,
     /// The bytes of the text of a note.
     TextBytes,
+}
+
+impl PushTo for Quantity {
+    ghost text_of = { quantity_text };
+
+    fn push_to(&self, text: &mut String) -> Result<(), Memory> {
+        text.try_push_str(match self {
+            Quantity::Hands => "hands",
+            Quantity::Moves => "moves of a hand",
+            Quantity::OtherEvents => "other events of a hand",
+            Quantity::FileMoves => "moves of the file",
+            Quantity::TextBytes => "text bytes",
+        })
+    }
 }
 
 impl fmt::Display for Quantity {

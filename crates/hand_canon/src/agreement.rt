@@ -10,6 +10,7 @@ ghost use Rattle.hand_canon.specs.SoundRecord.{IsStatedFor};
 
 use crate::record::{NetRow, Stated};
 use crate::trace::Trace;
+use card_set::{Memory, PushTo, TryWrite, try_push_all};
 use chip_ledger::{Seat, SeatRow};
 use std::fmt;
 
@@ -32,6 +33,27 @@ pub struct FactDiffers {
     pub which: Which,
     pub stated: i64,
     pub replayed: i64,
+}
+
+impl PushTo for Which {
+    ghost text_of = { which_text };
+
+    fn push_to(&self, text: &mut String) -> Result<(), Memory> {
+        match *self {
+            Which::Finish(seat) => try_push_all!(text; "finish p", seat.number),
+            Which::Win(seat) => try_push_all!(text; "win p", seat.number),
+            Which::Pots => text.try_push_str("pots"),
+            Which::Value(seat) => try_push_all!(text; "value p", seat.number),
+        }
+    }
+}
+
+impl PushTo for FactDiffers {
+    ghost text_of = { differs_text };
+
+    fn push_to(&self, text: &mut String) -> Result<(), Memory> {
+        try_push_all!(text; self.which, " stated ", self.stated, ", replayed ", self.replayed)
+    }
 }
 
 impl fmt::Display for Which {

@@ -3,6 +3,7 @@ ghost use Rattle.std.specs.Prelude.{◌≡◌, Some};
 ghost use Rattle.play_event.specs.ReasonText.{reason_text};
 ghost use Rattle.play_event.specs.TurnTargets.{is_bet_due};
 
+use card_set::{Memory, PushTo, TryWrite, try_push_all};
 use std::fmt;
 
 /// What is due. Streets count from 1.
@@ -58,6 +59,29 @@ pub enum Illegal {
     RaiseTooBig,
     /// A call states another number of chips than it adds.
     AmountDiffers { stated: u64, due: u64 },
+}
+
+impl PushTo for Illegal {
+    ghost text_of = { reason_text };
+
+    fn push_to(&self, text: &mut String) -> Result<(), Memory> {
+        text.try_push_str(match *self {
+            Illegal::HandOver => "HandOver",
+            Illegal::WrongKind => "WrongKind",
+            Illegal::WrongSeat => "WrongSeat",
+            Illegal::WrongCount => "WrongCount",
+            Illegal::CardTaken => "CardTaken",
+            Illegal::NotHeld => "NotHeld",
+            Illegal::UpCardUnknown => "UpCardUnknown",
+            Illegal::NothingToCall => "NothingToCall",
+            Illegal::RaiseClosed => "RaiseClosed",
+            Illegal::RaiseTooSmall => "RaiseTooSmall",
+            Illegal::RaiseTooBig => "RaiseTooBig",
+            Illegal::AmountDiffers { stated, due } => {
+                return try_push_all!(text; "AmountDiffers stated ", stated, ", due ", due);
+            }
+        })
+    }
 }
 
 impl fmt::Display for Illegal {
