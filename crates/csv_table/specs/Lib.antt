@@ -1,0 +1,3 @@
+-- Tables in CSV: their rows, and their text.
+pub mod Rows
+pub mod Tables
