@@ -31,9 +31,9 @@ ghost use Rattle.play_event.specs.declared.setup.Setup.{Setup};
 ghost use Rattle.trace_laws.specs.Conserved.{IsConserved};
 ghost use Rattle.trace_laws.specs.Winners.{AllGoToBest};
 
+use chip_laws::law_of_conserved_chips;
 use convert_core::{Notation, law_of_sharpness};
 use hand_canon::Keep;
-use hand_session::law_of_conserved_chips;
 use trace_laws::{
     law_of_canonical_hands, law_of_finishing_stacks, law_of_one_trace, law_of_places,
     law_of_pots_and_returns, law_of_winners,

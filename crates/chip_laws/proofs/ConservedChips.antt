@@ -14,9 +14,9 @@ use Rattle.play_event.specs.ValidSetup.{IsValid}
 use Rattle.play_event.proofs.ScriptLaws.{at_end}
 use Rattle.trace_laws.specs.Conserved.{IsConserved}
 use Rattle.trace_laws.proofs.ConservedTraces.{conserved}
-use Rattle.hand_session.proofs.JudgedSeats.{AreWhole}
-use Rattle.hand_session.proofs.ShownCards.{shown_whole}
-use Rattle.hand_session.proofs.WholePots.{shares_are_pots}
+use Rattle.chip_laws.proofs.JudgedSeats.{AreWhole}
+use Rattle.chip_laws.proofs.ShownCards.{shown_whole}
+use Rattle.chip_laws.proofs.WholePots.{shares_are_pots}
 
 -- in a legal hand each shown seat has a whole hand
 legal_whole : (setup : Setup) (rules : Rules) (script : List Said) → IsLegalHand setup rules script

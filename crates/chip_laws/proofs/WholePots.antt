@@ -21,8 +21,8 @@ use Rattle.play_event.specs.Past.{Past}
 use Rattle.showdown_split.proofs.FirstRake.{have_rakes}
 use Rattle.trace_laws.proofs.ShareBounds.{one_whole, pot_at, share_at}
 use Rattle.variant_table.specs.Shares.{AllShared, AreSharesOf, AreOfShown, Showdown, is_contender, ranking_of}
-use Rattle.hand_session.proofs.JudgedSeats.{AreWhole, compared_high, compared_low}
-use Rattle.hand_session.proofs.SomeWinner.{whole_halves, whole_parts}
+use Rattle.chip_laws.proofs.JudgedSeats.{AreWhole, compared_high, compared_low}
+use Rattle.chip_laws.proofs.SomeWinner.{whole_halves, whole_parts}
 
 -- the shares of a pot for which several seats contend
 contested_whole : (code : Code) (showdown : Showdown) (pot : PlainPot) (share : ℕ → ℕ) → AreWhole code showdown
