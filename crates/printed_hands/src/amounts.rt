@@ -3,7 +3,7 @@ ghost use Rattle.std.specs.Prelude.{◌≡◌, ◌++◌, OnOk, string_bytes};
 ghost use Rattle.chip_ledger.specs.SeatRow.{amounts_in};
 ghost use Rattle.chip_ledger.specs.AmountTexts.{spaced};
 
-use card_set::{Memory, TryWrite, try_write};
+use card_set::{Memory, try_push_all};
 use chip_ledger::SeatRow;
 
 /// Appends the amounts of a row, from p1 upward.
@@ -23,7 +23,7 @@ pub fn push_amounts(text: &mut String, amounts: &[u64]) -> Result<(), Memory>
         [] => Ok(()),
         [first, rest @ ..] => {
             let amount = *first;
-            try_write!(text, " {amount}")?;
+            try_push_all!(text; " ", amount)?;
             push_amounts(text, rest)
         }
     }

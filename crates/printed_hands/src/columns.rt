@@ -3,7 +3,7 @@ ghost use Rattle.std.specs.Prelude.{◌≡◌, ◌++◌, replicate, OnOk, string
 ghost use Rattle.std.specs.Fmt.{decimal, signed_decimal};
 ghost use Rattle.printed_hands.specs.Columns.{left_in, right_in};
 
-use card_set::{Memory, TryWrite, try_format};
+use card_set::{Memory, TryWrite, text_from};
 use std::alloc::Global;
 
 /// Appends a number with its sign, right-aligned in `places` columns.
@@ -16,7 +16,7 @@ pub fn push_signed(
     ensures { OnOk result (string_bytes text.new
         ≡ string_bytes text.old ++ right_in places (signed_decimal number)) }
 {
-    let number = try_format!(in alloc; "{number}")?;
+    let number = text_from(alloc, number)?;
     push_right(text, number.as_str(), places)
 }
 
@@ -30,7 +30,7 @@ pub fn push_number(
     ensures { OnOk result (string_bytes text.new
         ≡ string_bytes text.old ++ right_in places (decimal number)) }
 {
-    let number = try_format!(in alloc; "{number}")?;
+    let number = text_from(alloc, number)?;
     push_right(text, number.as_str(), places)
 }
 

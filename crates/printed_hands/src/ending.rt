@@ -5,7 +5,7 @@ ghost use Rattle.chip_ledger.specs.SeatRow.{amounts_in};
 ghost use Rattle.printed_hands.specs.Ending.{divided, ending_lines, entries, listed_from, pot_line, pot_lines, rake_entry, return_line, return_lines};
 
 use crate::amounts::push_row;
-use card_set::{Memory, TryWrite, try_write};
+use card_set::{Memory, TryWrite, try_push_all};
 use chip_ledger::{Pot, SeatRow};
 use hand_canon::Trace;
 
@@ -46,7 +46,7 @@ fn push_return(text: &mut String, seat: u8, amount: u64) -> Result<(), Memory>
         ≡ string_bytes text.old ++ return_line seat amount) }
 {
     if amount > 0 {
-        try_write!(text, "return p{seat} {amount}\n")?;
+        try_push_all!(text; "return p", seat, " ", amount, "\n")?;
     }
     Ok(())
 }
@@ -88,7 +88,7 @@ fn push_pot(
         ≡ string_bytes text.old ++ pot_line number pot.now share.now rake) }
 {
     let chips = pot.chips;
-    try_write!(text, "pot {number} {chips}: ")?;
+    try_push_all!(text; "pot ", number, " ", chips, ": ")?;
     push_entries(text, true, 1, &share.amounts[..share.seats as usize], rake)?;
     text.try_push_str("\n")?;
     Ok(())
@@ -114,7 +114,7 @@ fn push_entries(
                 return push_entries(text, is_first, seat + 1, others, rake);
             }
             push_comma(text, is_first)?;
-            try_write!(text, "p{seat} {amount}")?;
+            try_push_all!(text; "p", seat, " ", amount)?;
             push_entries(text, false, seat + 1, others, rake)
         }
     }
@@ -129,7 +129,7 @@ fn push_rake(text: &mut String, is_first: bool, rake: u64) -> Result<(), Memory>
         return Ok(());
     }
     push_comma(text, is_first)?;
-    try_write!(text, "rake {rake}")?;
+    try_push_all!(text; "rake ", rake)?;
     Ok(())
 }
 

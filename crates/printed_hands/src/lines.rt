@@ -7,7 +7,7 @@ ghost use Rattle.printed_hands.specs.Columns.{left_in, right_in};
 
 use crate::columns::{push_left, push_number, push_right, push_signed};
 use crate::tally::Tally;
-use card_set::{Memory, TryWrite, try_format};
+use card_set::{Memory, TryWrite, text_from};
 use std::alloc::Global;
 
 /// Appends the line of some hands: a title, their number, and the chips of their pots together.
@@ -24,7 +24,7 @@ pub fn push_hands_line(
 {
     push_left(text, title, 6)?;
     push_number(alloc, text, hands, 8)?;
-    let pots = try_format!(in alloc; "{pots}")?;
+    let pots = text_from(alloc, pots)?;
     push_right(text, pots.as_str(), 20)?;
     text.try_push_str("\n")?;
     Ok(())

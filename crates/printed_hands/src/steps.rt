@@ -13,7 +13,7 @@ ghost use Rattle.printed_hands.specs.Steps.{AreMovesBefore, HasPut, MayAdd, begu
 
 use crate::chips::{add, posted_row, push_chips};
 use crate::ending::push_ending;
-use card_set::{Memory, TryWrite, try_write};
+use card_set::{Memory, try_push_all};
 use chip_ledger::SeatRow;
 use hand_canon::{Moves, Record, SoundPlay, Trace, named_move};
 use phh_actions::write_event;
@@ -114,7 +114,7 @@ fn push_head(text: &mut String, number: u64, setup: &Setup) -> Result<(), Memory
         ≡ string_bytes text.old ++ head_lines number setup.now) }
 {
     let code = setup.code.text();
-    try_write!(text, "hand {number} {code}\n0 posts")?;
+    try_push_all!(text; "hand ", number, " ", code, "\n0 posts")?;
     push_chips(text, setup, &posted_row(setup))?;
     Ok(())
 }
@@ -162,7 +162,7 @@ fn push_event(
 {
     let event = write_event(alloc, kind)?;
     let event = event.as_str();
-    try_write!(text, "{number} {event}")?;
+    try_push_all!(text; number, " ", event)?;
     push_chips(text, setup, put)?;
     Ok(())
 }

@@ -14,6 +14,6 @@ pub returns : goal.returns
 returns c =
     let chips = chips_text c.args.setup.now [] in
     c.in_ok-push_chips.ensures [] c.posted_row.ensures
-    ∙ ap (λ (text : List ℕ). text ++ chips) c.in_ok-try_write.ensures.bytes
+    ∙ ap (λ (text : List ℕ). text ++ chips) c.in_ok-try_push_all.ensures.pushed
     ∙ regrouped (string_bytes c.args.text.now) (decimal c.args.number) c.text-code.result.now (codes "\n0 posts") chips
     ∙ ap (λ (code : List ℕ). string_bytes c.args.text.now ++ (codes "hand " ++ (decimal c.args.number ++ (32 ∷ code ++ (codes "\n0 posts" ++ chips))))) c.text-code.ensures
