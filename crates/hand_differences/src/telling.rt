@@ -5,7 +5,7 @@ ghost use Rattle.hand_differences.specs.FirstDifference.{Card, difference_said};
 ghost use Rattle.play_event.specs.Said.{seat_named};
 
 use crate::difference::Difference;
-use card_set::{Memory, string_from, try_format};
+use card_set::{Memory, string_from, try_text};
 use chip_ledger::Seat;
 use std::alloc::Global;
 
@@ -29,7 +29,7 @@ pub fn write_difference(alloc: Global, difference: Difference) -> Result<String,
             seat,
         } => {
             let seat = seat.number;
-            return try_format!(in alloc; "move {number}, street {street}, p{seat}");
+            return try_text!(in alloc; "move ", number, ", street ", street, ", p", seat);
         }
         Difference::Card {
             number,
@@ -38,10 +38,10 @@ pub fn write_difference(alloc: Global, difference: Difference) -> Result<String,
         } => return write_card(alloc, number, street, owner),
         Difference::Shown(seat) => {
             let seat = seat.number;
-            return try_format!(in alloc; "shown p{seat}");
+            return try_text!(in alloc; "shown p", seat);
         }
         Difference::Note(name) => {
-            return try_format!(in alloc; "Note {name}");
+            return try_text!(in alloc; "Note ", name);
         }
     };
     string_from(alloc, word)
@@ -59,7 +59,7 @@ fn write_card(
 {
     let owner = write_owner(alloc, owner)?;
     let owner = owner.as_str();
-    try_format!(in alloc; "card {number}, street {street}, {owner}")
+    try_text!(in alloc; "card ", number, ", street ", street, ", ", owner)
 }
 
 // The text of a card's owner.
@@ -69,7 +69,7 @@ fn write_owner(alloc: Global, owner: Option<Seat>) -> Result<String, Memory>
     match owner {
         Some(seat) => {
             let seat = seat.number;
-            try_format!(in alloc; "p{seat}")
+            try_text!(in alloc; "p", seat)
         }
         None => string_from(alloc, "board"),
     }
