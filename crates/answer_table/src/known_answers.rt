@@ -5,8 +5,9 @@ ghost use Rattle.std.specs.List.{AllByRecursion};
 ghost use Rattle.acpc_game.specs.declared.game.Game.{Game};
 ghost use Rattle.chip_ledger.specs.declared.numbers.Seat.{Seat};
 ghost use Rattle.command_words.specs.Command as commands;
-ghost use Rattle.command_words.specs.Command.{Command, has_input};
+ghost use Rattle.command_words.specs.Command.{Command, about, comparison, conversion, has_input};
 ghost use Rattle.command_words.specs.Words.{Plain, Request};
+ghost use Rattle.command_words.specs.declared.command.Question.TheVariants as questions;
 ghost use Rattle.hand_canon.specs.Sound.{IsSound};
 ghost use Rattle.hand_equity.specs.Street.{deals_board, first_unknown};
 ghost use Rattle.hand_canon.specs.SameHands.{AreSameHands, kept_notes};
@@ -78,41 +79,41 @@ pub fn legal_inputs_are_answered()
         → RefusesNothing status ⊎ (reply.status ≡ status) }
     ensures options { (request : Request) (hand events : ℕ) (reader : Format) (files : Files)
         → (bytes : List ℕ) (plays : List Play) (play : Play) (out diag : Sinks) (status : Status)
-        → AsksOfLegal files request (commands.Options reader hand events) bytes plays
+        → AsksOfLegal files request (about (questions.Options hand events) reader) bytes plays
         → hand_numbered plays hand ≡ Some play → events ≤ length play.hand.script
         → Ends request files bytes out diag status → RefusesNothing status }
     ensures equity { (request : Request) (hand street : ℕ) (reader : Format) (files : Files)
         → (bytes : List ℕ) (plays : List Play) (play : Play) (out diag : Sinks) (status : Status)
-        → AsksOfLegal files request (commands.Equity reader hand street) bytes plays
+        → AsksOfLegal files request (about (questions.Equity hand street) reader) bytes plays
         → hand_numbered plays hand ≡ Some play → deals_board play.trace street ≡ true
         → first_unknown play.trace street ≡ None
         → Ends request files bytes out diag status → RefusesNothing status }
     ensures views { (request : Request) (game : Game) (seat : Seat)
         → (files : Files) (bytes : List ℕ) (plays : List Play) (reply : Answer)
         → (out diag : Sinks) (status : Status)
-        → AsksOfLegal files request (commands.Views (readers.Acpc game) seat) bytes plays
+        → AsksOfLegal files request (about (questions.Views seat) (readers.Acpc game)) bytes plays
         → AreViews game seat plays reply → Ends request files bytes out diag status
         → RefusesNothing status ⊎ (reply.status ≡ status) }
     ensures seen { (request : Request) (game : Game) (seat : Seat)
         → (files : Files) (bytes : List ℕ) (plays : List Play) (out diag : Sinks)
         → (status : Status)
-        → AsksOfLegal files request (commands.Views (readers.Acpc game) seat) bytes plays
+        → AsksOfLegal files request (about (questions.Views seat) (readers.Acpc game)) bytes plays
         → seat.number ≤ game.stacks.seats
         → length (each_view game seat 0 plays) ≤ most_view_bytes
         → Ends request files bytes out diag status → RefusesNothing status }
     ensures judge { (request : Request) (lines : Bool) (reader : Format) (files : Files)
         → (bytes : List ℕ) (records : List Record) (out diag : Sinks) (status : Status)
-        → IsAsked files request (commands.Judge reader lines)
+        → IsAsked files request (about (questions.Judge lines) reader)
         → length bytes ≤ most_input → SayRecords reader bytes records
         → Ends request files bytes out diag status → RefusesNothing status }
     ensures convert { (request : Request) (reader target : Format) (keep : Keep) (files : Files)
         → (bytes : List ℕ) (plays : List Play) (out diag : Sinks) (status : Status)
-        → AsksOfLegal files request (commands.Convert reader target keep) bytes plays
+        → AsksOfLegal files request (conversion reader target keep) bytes plays
         → first_refusal_in target keep plays ≡ None
         → Ends request files bytes out diag status → RefusesNothing status }
     ensures compare { (request : Request) (reader other : Format) (notes : Bool) (files : Files)
         → (text bytes : List ℕ) (plays others : List Play) (out diag : Sinks) (status : Status)
-        → IsAsked files request (commands.Compare reader other text notes)
+        → IsAsked files request (comparison reader other text notes)
         → BothRead reader other text bytes plays others
         → Ends request files bytes out diag status
         → RefusesNothing status ⊎ ((compared notes plays others).status ≡ status) }
@@ -146,23 +147,23 @@ pub fn answers_to_equal_hands_are_the_same()
     ensures equal { (from other to : Format) (keep : Keep) (bytes too : List ℕ)
         → (plays others : List Play) (answer written : Answer)
         → ReadAsPlays (SayRecords from bytes) plays → ReadAsPlays (SayRecords other too) others
-        → IsAnswer (commands.Convert from to keep) bytes answer → answer.status ≡ statuses.Done
-        → IsAnswer (commands.Convert other to keep) too written → written.status ≡ statuses.Done
+        → IsAnswer (conversion from to keep) bytes answer → answer.status ≡ statuses.Done
+        → IsAnswer (conversion other to keep) too written → written.status ≡ statuses.Done
         → AreSameHands (kept_notes keep (kept_in to)) plays others
         ↔ AreSameIn to answer.output written.output }
     ensures again { (from to : Format) (keep again : Keep) (bytes : List ℕ) (answer other : Answer)
-        → IsAnswer (commands.Convert from to keep) bytes answer → answer.status ≡ statuses.Done
+        → IsAnswer (conversion from to keep) bytes answer → answer.status ≡ statuses.Done
         → length answer.output ≤ most_input
-        → IsAnswer (commands.Convert to to again) answer.output other
+        → IsAnswer (conversion to to again) answer.output other
         → (other.status ≡ statuses.Done) × AreSameIn to answer.output other.output }
     ensures by_way { (from by to : Format) (keep : Keep) (bytes : List ℕ)
         → (halfway straight by_way : Answer)
-        → IsAnswer (commands.Convert from by keeps.All) bytes halfway
+        → IsAnswer (conversion from by keeps.All) bytes halfway
         → halfway.status ≡ statuses.Done
         → length halfway.output ≤ most_input
-        → IsAnswer (commands.Convert from to keep) bytes straight
-        → IsAnswer (commands.Convert by to keep) halfway.output by_way
-        → AreOneAnswer (commands.Convert from to keep) straight by_way }
+        → IsAnswer (conversion from to keep) bytes straight
+        → IsAnswer (conversion by to keep) halfway.output by_way
+        → AreOneAnswer (conversion from to keep) straight by_way }
 {
     law_of_equal_answers();
 }
@@ -222,22 +223,22 @@ pub fn same_hands_compare_as_the_same()
 pub fn comparison_finds_the_same_hands()
     ensures done { (request : Request) (from other : Format) (notes : Bool) (files : Files)
         → (text bytes : List ℕ) (out diag : Sinks)
-        → IsAsked files request (commands.Compare from other text notes)
+        → IsAsked files request (comparison from other text notes)
         → Ends request files bytes out diag statuses.Done
         → AreFoundSame from other notes text bytes out }
     ensures differs { (request : Request) (from other : Format) (notes : Bool) (files : Files)
         → (text bytes : List ℕ) (out diag : Sinks)
-        → IsAsked files request (commands.Compare from other text notes)
+        → IsAsked files request (comparison from other text notes)
         → Ends request files bytes out diag statuses.Differs
         → AreFoundOther from other notes text bytes diag }
     ensures same { (request : Request) (from other : Format) (notes : Bool) (files : Files)
         → (text bytes : List ℕ) (plays others : List Play) (out diag : Sinks) (status : Status)
-        → IsAsked files request (commands.Compare from other text notes)
+        → IsAsked files request (comparison from other text notes)
         → BothRead from other text bytes plays others → AreSame notes plays others
         → Ends request files bytes out diag status → RefusesNothing status }
     ensures different { (request : Request) (from other : Format) (notes : Bool) (files : Files)
         → (text bytes : List ℕ) (plays others : List Play) (out diag : Sinks) (status : Status)
-        → IsAsked files request (commands.Compare from other text notes)
+        → IsAsked files request (comparison from other text notes)
         → BothRead from other text bytes plays others
         → (AreSame notes plays others → ⊥)
         → Ends request files bytes out diag status → FindsOther status }
@@ -252,7 +253,7 @@ pub fn conversion_compares_as_its_source()
         → (bytes output : List ℕ) (out diag : Sinks) (status : Status)
         → (into : ConvertsInto from to keep bytes output)
         → (notes ≡ true → first_refusal_in to keeps.All into.plays ≡ None)
-        → IsAsked files request (commands.Compare from to output notes)
+        → IsAsked files request (comparison from to output notes)
         → Ends request files bytes out diag status → RefusesNothing status }
     ensures output { (request : Request) (files : Files) (from to : Format) (keep : Keep)
         (notes : Bool)
@@ -260,7 +261,7 @@ pub fn conversion_compares_as_its_source()
         → (into : ConvertsInto from to keep bytes output)
         → (notes ≡ true → first_refusal_in to keeps.All into.plays ≡ None)
         → length output ≤ most_input
-        → IsAsked files request (commands.Compare to from bytes notes)
+        → IsAsked files request (comparison to from bytes notes)
         → Ends request files output out diag status → RefusesNothing status }
 {
     law_of_compared_conversions();
@@ -271,7 +272,7 @@ pub fn files_of_one_output_compare_as_the_same()
     ensures { (request : Request) (files : Files) (from other to : Format)
         → (bytes too output written : List ℕ) (out diag : Sinks) (status : Status)
         → ConvertsInto from to keeps.All bytes output → ConvertsInto other to keeps.All too written
-        → IsAsked files request (commands.Compare from other too true)
+        → IsAsked files request (comparison from other too true)
         → Ends request files bytes out diag status
         → (AreSameIn to output written → RefusesNothing status)
         × (status ≡ statuses.Done → AreSameIn to output written) }

@@ -1,9 +1,8 @@
 -- What the words of `compare` ask for.
 use Rattle.std.specs.Prelude.{ℕ, not, false, if◌then◌else◌, List, [], ◌∷◌, Option, Some, None, option_map}
 use Rattle.command_words.specs.GivenOptions.{GivenOptions, no_option_given}
-use Rattle.command_words.specs.Command.{Command, with_both}
+use Rattle.command_words.specs.Command.{Command, comparison, with_both}
 use Rattle.command_words.specs.Notations.{notation_named}
-use Rattle.command_words.specs.Command as commands
 use Rattle.command_words.specs.declared.notation.NotationName.{NotationName}
 
 -- the name of a file, if one is given and is not empty
@@ -18,7 +17,7 @@ comparison_asked options =
     if no_option_given (record options
     { from = None; game = None; other_file = None; other_notation = None; ignores_notes = false })
     then with_both
-    (λ from other. option_map (λ file. commands.Compare from other file (not options.ignores_notes))
+    (λ from other. option_map (λ file. comparison from other file (not options.ignores_notes))
     (file_named options.other_file))
     (notation_named options.from) (notation_named options.other_notation)
     else None

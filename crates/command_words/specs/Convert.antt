@@ -1,9 +1,8 @@
 -- What the words of `convert` ask for.
 use Rattle.std.specs.Prelude.{Bool, false, if◌then◌else◌, Option, Some, None}
 use Rattle.command_words.specs.GivenOptions.{GivenOptions, no_option_given}
-use Rattle.command_words.specs.Command.{Command, with_both}
+use Rattle.command_words.specs.Command.{Command, conversion, with_both}
 use Rattle.command_words.specs.Notations.{notation_named}
-use Rattle.command_words.specs.Command as commands
 use Rattle.command_words.specs.declared.notation.NotationName.{NotationName}
 use Rattle.hand_canon.specs.declared.writing.Keep.{Keep}
 use Rattle.hand_canon.specs.declared.writing.Keep.TheVariants as keeps
@@ -16,6 +15,6 @@ keep_said drops_notes = if drops_notes then keeps.Spelled else keeps.All
 abbrev pub conversion_asked : GivenOptions → Option (Command NotationName)
 conversion_asked options =
     if no_option_given (record options { from = None; to = None; game = None; drops_notes = false })
-    then with_both (λ from to. Some (commands.Convert from to (keep_said options.drops_notes)))
+    then with_both (λ from to. Some (conversion from to (keep_said options.drops_notes)))
     (notation_named options.from) (notation_named options.to)
     else None

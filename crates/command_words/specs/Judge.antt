@@ -2,8 +2,8 @@
 use Rattle.std.specs.Prelude.{Bool, true, false, if◌then◌else◌, Option, Some, None, option_and_then}
 use Rattle.command_words.specs.GivenOptions.{GivenOptions, no_option_given}
 use Rattle.command_words.specs.Notations.{notation_named}
-use Rattle.command_words.specs.Command as commands
-use Rattle.command_words.specs.Command.{Command}
+use Rattle.command_words.specs.Command.{Command, about}
+use Rattle.command_words.specs.declared.command.Question.TheVariants as questions
 use Rattle.command_words.specs.declared.notation.NotationName.{NotationName}
 use Rattle.command_words.specs.declared.notation.NotationName.TheVariants as names
 use Rattle.command_words.specs.declared.notation.PlainNotation.TheVariants as notations
@@ -12,7 +12,7 @@ use Rattle.command_words.specs.declared.notation.PlainNotation.TheVariants as no
 -- these are not given for the Poker Hand History format.
 abbrev pub verdicts_of : (lines : Bool) → NotationName → Option (Command NotationName)
 verdicts_of true (names.Plain notations.Phh) = None
-verdicts_of lines from = Some (commands.Judge from lines)
+verdicts_of lines from = Some (about (questions.Judge lines) from)
 
 -- `judge` takes --from, --game for logs, and --lines
 abbrev pub judge_asked : GivenOptions → Option (Command NotationName)

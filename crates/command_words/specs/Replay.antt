@@ -2,18 +2,19 @@
 use Rattle.std.specs.Prelude.{Bool, if◌then◌else◌, false, Option, None, option_map}
 use Rattle.command_words.specs.GivenOptions.{GivenOptions, no_option_given}
 use Rattle.command_words.specs.Notations.{notation_named}
-use Rattle.command_words.specs.Command as commands
-use Rattle.command_words.specs.Command.{Command}
+use Rattle.command_words.specs.Command.{Command, about}
 use Rattle.command_words.specs.declared.command.EachQuestion.TheVariants as of_each
+use Rattle.command_words.specs.declared.command.Question.{Question}
+use Rattle.command_words.specs.declared.command.Question.TheVariants as questions
 use Rattle.command_words.specs.declared.notation.NotationName.{NotationName}
 
 -- all hands step by step, each by itself or all together
-abbrev pub replay_of : (each : Bool) → NotationName → Command NotationName
-replay_of each from = if each then commands.Each from of_each.Replay else commands.Replay from
+abbrev pub replay_of : (each : Bool) → Question
+replay_of each = if each then questions.Each of_each.Replay else questions.Replay
 
 -- `replay` takes --from, --game for logs, and --each
 abbrev pub replay_asked : GivenOptions → Option (Command NotationName)
 replay_asked options =
     if no_option_given (record options { from = None; game = None; asks_each = false })
-    then option_map (replay_of options.asks_each) (notation_named options.from)
+    then option_map (about (replay_of options.asks_each)) (notation_named options.from)
     else None

@@ -4,7 +4,7 @@ ghost use Rattle.command_words.specs.Command.{command_in};
 ghost use Rattle.command_words.specs.Requests.{file_given, options_in};
 ghost use Rattle.command_words.specs.Compare.{comparison_asked, file_named};
 
-use crate::command::Command;
+use crate::command::{Ask, Command};
 use crate::given_options::{GivenOptions, has_no_options};
 use crate::notation::{NotationName, parse_given_notation};
 
@@ -28,7 +28,8 @@ pub fn command(options: GivenOptions<'_>) -> Option<Command<NotationName>>
     let other = parse_given_notation(options.other_notation)?;
     let _file = check_file_name(options.other_file)?;
     let notes = !options.ignores_notes;
-    Some(Command::Compare { from, other, notes })
+    let ask = Ask::Compare { other, notes };
+    Some(Command::Hands { from, ask })
 }
 
 // The name of a file, if one is given and is not empty.

@@ -4,7 +4,7 @@ ghost use Rattle.command_words.specs.Command.{command_in};
 ghost use Rattle.command_words.specs.Requests.{file_given, options_in};
 ghost use Rattle.command_words.specs.Convert.{conversion_asked, keep_said};
 
-use crate::command::Command;
+use crate::command::{Ask, Command};
 use crate::given_options::{GivenOptions, has_no_options};
 use crate::notation::{NotationName, parse_given_notation};
 use hand_canon::Keep;
@@ -27,7 +27,8 @@ pub fn command(options: GivenOptions<'_>) -> Option<Command<NotationName>>
     let from = parse_given_notation(options.from)?;
     let to = parse_given_notation(options.to)?;
     let keep = keep_of(options.drops_notes);
-    Some(Command::Convert { from, to, keep })
+    let ask = Ask::Convert { to, keep };
+    Some(Command::Hands { from, ask })
 }
 
 // Which notes are kept, by the flag.

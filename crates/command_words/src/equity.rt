@@ -4,7 +4,7 @@ ghost use Rattle.command_words.specs.Command.{command_in};
 ghost use Rattle.command_words.specs.Requests.{file_given, options_in};
 ghost use Rattle.command_words.specs.Equity.{equity_asked};
 
-use crate::command::Command;
+use crate::command::{Ask, Command, Question};
 use crate::given_options::{GivenOptions, has_no_options};
 use crate::notation::{NotationName, parse_given_notation};
 use crate::numbers::{read_hand, read_street};
@@ -27,5 +27,6 @@ pub fn command(options: GivenOptions<'_>) -> Option<Command<NotationName>>
     let from = parse_given_notation(options.from)?;
     let hand = read_hand(options.hand?)?;
     let street = read_street(options.street?)?;
-    Some(Command::Equity { from, hand, street })
+    let ask = Ask::About(Question::Equity { hand, street });
+    Some(Command::Hands { from, ask })
 }

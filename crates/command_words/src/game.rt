@@ -4,7 +4,7 @@ ghost use Rattle.command_words.specs.Command.{command_in};
 ghost use Rattle.command_words.specs.Requests.{file_given, options_in};
 ghost use Rattle.command_words.specs.Game.{game_asked};
 
-use crate::command::Command;
+use crate::command::{Ask, Command, Question};
 use crate::given_options::{GivenOptions, has_no_options};
 use crate::notation::{NotationName, parse_given_notation};
 
@@ -21,5 +21,6 @@ pub fn command(options: GivenOptions<'_>) -> Option<Command<NotationName>>
         return None;
     }
     let from = parse_given_notation(options.from)?;
-    Some(Command::Game { from })
+    let ask = Ask::About(Question::Game);
+    Some(Command::Hands { from, ask })
 }

@@ -4,7 +4,7 @@ ghost use Rattle.command_words.specs.Command.{command_in};
 ghost use Rattle.command_words.specs.Requests.{file_given, options_in};
 ghost use Rattle.command_words.specs.Judge.{judge_asked, verdicts_of};
 
-use crate::command::Command;
+use crate::command::{Ask, Command, Question};
 use crate::given_options::{GivenOptions, has_no_options};
 use crate::notation::{NotationName, PlainNotation, parse_given_notation};
 
@@ -33,6 +33,9 @@ fn ask_for_verdicts(lines: bool, from: NotationName) -> Option<Command<NotationN
 {
     match from {
         NotationName::Plain(PlainNotation::Phh) if lines => None,
-        from => Some(Command::Judge { from, lines }),
+        from => {
+            let ask = Ask::About(Question::Judge { lines });
+            Some(Command::Hands { from, ask })
+        }
     }
 }

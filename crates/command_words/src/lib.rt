@@ -23,7 +23,7 @@ mod session;
 mod views;
 mod words;
 
-pub use command::{Command, EachQuestion};
+pub use command::{Ask, Command, EachQuestion, Question};
 pub use hand_count::HandCount;
 pub use log_command::LogCommand;
 pub use notation::{NotationName, PlainNotation};

@@ -1,10 +1,10 @@
 //! The words of `replay`: each hand step by step.
-ghost use Rattle.std.specs.Prelude.{◌≡◌, ℕ, List, option_map};
+ghost use Rattle.std.specs.Prelude.{◌≡◌, option_map};
 ghost use Rattle.command_words.specs.Command.{command_in};
 ghost use Rattle.command_words.specs.Requests.{file_given, options_in};
 ghost use Rattle.command_words.specs.Replay.{replay_asked, replay_of};
 
-use crate::command::{Command, EachQuestion};
+use crate::command::{Ask, Command, EachQuestion, Question};
 use crate::given_options::{GivenOptions, has_no_options};
 use crate::notation::{NotationName, parse_given_notation};
 
@@ -24,16 +24,17 @@ pub fn command(options: GivenOptions<'_>) -> Option<Command<NotationName>>
         return None;
     }
     let from = parse_given_notation(options.from)?;
-    Some(ask_for_replay(options.asks_each, from))
+    let ask = Ask::About(ask_for_replay(options.asks_each));
+    Some(Command::Hands { from, ask })
 }
 
 // All hands step by step, whether or not others are legal if each is asked for by itself.
-fn ask_for_replay(each: bool, from: NotationName) -> Command<NotationName>
-    ensures { (file : List ℕ) → command_in file result ≡ replay_of each from }
+fn ask_for_replay(each: bool) -> Question
+    ensures { result ≡ replay_of each }
 {
     if each {
-        let question = EachQuestion::Replay;
-        return Command::Each { from, question };
+        Question::Each(EachQuestion::Replay)
+    } else {
+        Question::Replay
     }
-    Command::Replay { from }
 }

@@ -4,7 +4,7 @@ ghost use Rattle.command_words.specs.Command.{command_in};
 ghost use Rattle.command_words.specs.Requests.{file_given, options_in};
 ghost use Rattle.command_words.specs.Report.{report_asked};
 
-use crate::command::Command;
+use crate::command::{Ask, Command, Question};
 use crate::given_options::GivenOptions;
 use crate::notation::NotationName;
 use crate::request::parse_notation_alone;
@@ -15,5 +15,6 @@ pub fn command(options: GivenOptions<'_>) -> Option<Command<NotationName>>
         ≡ report_asked (options_in options.entry) }
 {
     let from = parse_notation_alone(options)?;
-    Some(Command::Report { from })
+    let ask = Ask::About(Question::Report);
+    Some(Command::Hands { from, ask })
 }

@@ -4,7 +4,7 @@ ghost use Rattle.command_words.specs.Command.{command_in};
 ghost use Rattle.command_words.specs.Requests.{file_given, options_in};
 ghost use Rattle.command_words.specs.Views.{views_asked, views_of};
 
-use crate::command::Command;
+use crate::command::{Ask, Command, Question};
 use crate::given_options::{GivenOptions, has_no_options};
 use crate::notation::{NotationName, parse_given_notation};
 use crate::numbers::read_seat;
@@ -34,7 +34,10 @@ fn ask_for_views(from: NotationName, seat: Seat) -> Option<Command<NotationName>
     ensures { (file : List ℕ) → option_map (command_in file) result ≡ views_of from seat }
 {
     match from {
-        NotationName::Acpc => Some(Command::Views { from, seat }),
+        NotationName::Acpc => {
+            let ask = Ask::About(Question::Views { seat });
+            Some(Command::Hands { from, ask })
+        }
         NotationName::Plain(_) => None,
     }
 }

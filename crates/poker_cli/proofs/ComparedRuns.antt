@@ -194,7 +194,7 @@ module _ (from other : Format) (notes : Bool) (text bytes : List ℕ) (status : 
   told_with plays _ few is (in_compare.OtherPlayed others reads) same =
       record { plays = plays; others = others; both = record { within = few; read = is; reads = reads }; is = refl }
 
-  told_of_both : (answer : Answer) → IsAnswer (commands.Compare from other text notes) bytes answer → answer.status ≡ status → IsToldOfBoth from other notes text bytes answer
+  told_of_both : (answer : Answer) → IsAnswer (commands.comparison from other text notes) bytes answer → answer.status ≡ status → IsToldOfBoth from other notes text bytes answer
   unfolding IsUnread
   told_of_both _ (answers.TooLong many) same = absurd (read (subst IsUnread same tt))
   told_of_both answer (answers.Read few _ (parts_said.Unread fault have _ shown)) same = absurd (not_unread fault answer status read shown same)
@@ -213,12 +213,12 @@ module _ (from other : Format) (notes : Bool) (text bytes : List ℕ) (plays oth
   done_of_both = same_told notes plays others plays_sound others_sound
 
 module _ (request : Request) (from other : Format) (notes : Bool) (files : Files) (text bytes : List ℕ) (out diag : Sinks)
-    (asks : IsAsked files request (commands.Compare from other text notes)) where
+    (asks : IsAsked files request (commands.comparison from other text notes)) where
   pub found_same : Ends request files bytes out diag statuses.Done → AreFoundSame from other notes text bytes out
   unfolding IsUnread
   found_same ends =
       let shown = told_of_both from other notes text bytes statuses.Done (λ un. un) (λ same. cc (same)) ends.answer
-      (as_asked request files bytes (commands.Compare from other text notes) ends.answer asks ends.to_input) ends.ends in
+      (as_asked request files bytes (commands.comparison from other text notes) ends.answer asks ends.to_input) ends.ends in
       let done : (compared notes shown.plays shown.others).status ≡ statuses.Done = sym (ap (λ (a : Answer). a.status) shown.is) ∙ ends.ends in
       record {
         plays = shown.plays;
@@ -234,7 +234,7 @@ module _ (request : Request) (from other : Format) (notes : Bool) (files : Files
   unfolding IsUnread
   found_other ends =
       let shown = told_of_both from other notes text bytes statuses.Differs (λ un. un) (λ same. cc (same)) ends.answer
-      (as_asked request files bytes (commands.Compare from other text notes) ends.answer asks ends.to_input) ends.ends in
+      (as_asked request files bytes (commands.comparison from other text notes) ends.answer asks ends.to_input) ends.ends in
       record {
         plays = shown.plays;
         others = shown.others;
@@ -248,7 +248,7 @@ module _ (request : Request) (from other : Format) (notes : Bool) (files : Files
       }
 
 module _ (request : Request) (from with_notation : Format) (notes : Bool) (files : Files) (text bytes : List ℕ) (plays others : List Play) (out diag : Sinks) (status : Status)
-    (asks : IsAsked files request (commands.Compare from with_notation text notes)) (both : BothRead from with_notation text bytes plays others) where
+    (asks : IsAsked files request (commands.comparison from with_notation text notes)) (both : BothRead from with_notation text bytes plays others) where
   -- a run ends with the answer to the plays, or a device failed, or memory ran out
   told_or_not : Ends request files bytes out diag status → RefusesNothing status ⊎ ((compared notes plays others).status ≡ status)
   told_or_not ends = legal_compares request from with_notation notes files text bytes plays others out diag status asks both ends
@@ -264,7 +264,7 @@ module _ (request : Request) (from with_notation : Format) (notes : Bool) (files
   never_done : (AreSame notes plays others → ⊥) → (answer : Answer) → IsAnswerIn request files bytes answer → answer.status ≡ statuses.Done → ⊥
   never_done other answer is done =
       let so = compared_legal from with_notation notes text bytes plays others answer both.within both.read both.reads
-      (as_asked request files bytes (commands.Compare from with_notation text notes) answer asks is) in
+      (as_asked request files bytes (commands.comparison from with_notation text notes) answer asks is) in
       other ((done_of_both from with_notation notes text bytes plays others both).0 (sym (ap (λ (a : Answer). a.status) so) ∙ done))
 
   fault_or_not : (AreSame notes plays others → ⊥) → (status : Status) → Ends request files bytes out diag status → RefusesNothing status → FindsOther status

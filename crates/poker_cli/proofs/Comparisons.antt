@@ -58,19 +58,19 @@ with_legal other notes file plays others _ read (in_compare.OtherPlayed too read
     same_compared notes plays plays too others (own_hands 0 plays) (read_same (lawful_of other) file too others reads read)
 
 pub compared_legal : (from other : Format) (notes : Bool) (file bytes : List ℕ) (plays others : List Play) (answer : Answer) → length bytes ≤ most_input
-    → ReadAsPlays (SayRecords from bytes) plays → ReadAsPlays (SayRecords other file) others → IsAnswer (commands.Compare from other file notes) bytes answer
+    → ReadAsPlays (SayRecords from bytes) plays → ReadAsPlays (SayRecords other file) others → IsAnswer (commands.comparison from other file notes) bytes answer
     → answer ≡ compared notes plays others
 compared_legal from other notes file bytes plays others answer few read reads to =
-    let made = legal_asked (commands.Compare from other file notes) bytes plays answer tt few read to in
+    let made = legal_asked (commands.comparison from other file notes) bytes plays answer tt few read to in
     with_legal other notes file made.others others answer reads made.made
     ∙ sym (same_compared notes plays made.others others others made.same.hands (read_same (lawful_of other) file others others reads reads))
 
 -- a run of `compare` ends with the status of the comparison, if all hands of both files are legal
 pub legal_compares : (request : Request) (from other : Format) (notes : Bool) (files : Files) (text bytes : List ℕ) (plays others : List Play)
-    → (out diag : Sinks) (status : Status) → IsAsked files request (commands.Compare from other text notes) → BothRead from other text bytes plays others
+    → (out diag : Sinks) (status : Status) → IsAsked files request (commands.comparison from other text notes) → BothRead from other text bytes plays others
     → Ends request files bytes out diag status → RefusesNothing status ⊎ ((compared notes plays others).status ≡ status)
 legal_compares request from other notes files text bytes plays others out diag status asks both ends =
-    let command = commands.Compare from other text notes in
+    let command = commands.comparison from other text notes in
     ends_so request files bytes out diag status (compared notes plays others).status
     (λ answer is. ap (λ (a : Answer). a.status)
     (compared_legal from other notes text bytes plays others answer both.within both.read both.reads (as_asked request files bytes command answer asks is)))
@@ -183,9 +183,9 @@ module _ (from to : Format) (keep : Keep) (bytes output : List ℕ) (into : Conv
 
   -- the answer if the output is the other file
   beside_output : (notes : Bool) (answer : Answer) → (notes ≡ true → first_refusal_in to keeps.All into.plays ≡ None)
-      → IsAnswer (commands.Compare from to output notes) bytes answer → answer.status ≡ statuses.Done
+      → IsAnswer (commands.comparison from to output notes) bytes answer → answer.status ≡ statuses.Done
   beside_output notes answer none is =
-      let alike = legal_asked (commands.Compare from to output notes) bytes into.plays answer tt into.can.within into.can.legal is in
+      let alike = legal_asked (commands.comparison from to output notes) bytes into.plays answer tt into.can.within into.can.legal is in
       go alike.others answer (all_turned (λ notes. notes) into.plays alike.others alike.same.hands) alike.made
     where
       go : (plays : List Play) (answer : Answer) → AllPaired Same 0 plays into.plays → IsComparedWith to notes output plays answer
@@ -199,7 +199,7 @@ module _ (from to : Format) (keep : Keep) (bytes output : List ℕ) (into : Conv
 
   -- and if it is the input
   before_source : (notes : Bool) (answer : Answer) → (notes ≡ true → first_refusal_in to keeps.All into.plays ≡ None) → length output ≤ most_input
-      → IsAnswer (commands.Compare to from bytes notes) output answer → answer.status ≡ statuses.Done
+      → IsAnswer (commands.comparison to from bytes notes) output answer → answer.status ≡ statuses.Done
   before_source notes _ none few (answers.TooLong many) = absurd (omega (arith, many, few))
   before_source notes answer none few (answers.Read less _ (parts_said.Unread fault have _ shown)) = absurd (into.back.no_fault fault have)
   before_source notes _ none few (answers.Read less _ (parts_said.Refused number why first)) =
@@ -223,10 +223,10 @@ module _ (from to : Format) (keep : Keep) (bytes output : List ℕ) (into : Conv
 pub compares_output : (request : Request) (files : Files) (from to : Format) (keep : Keep) (notes : Bool) (bytes output : List ℕ)
     → (out diag : Sinks) (status : Status) (into : ConvertsInto from to keep bytes output)
     → (notes ≡ true → first_refusal_in to keeps.All into.plays ≡ None)
-    → IsAsked files request (commands.Compare from to output notes)
+    → IsAsked files request (commands.comparison from to output notes)
     → Ends request files bytes out diag status → RefusesNothing status
 compares_output request files from to keep notes bytes output out diag status into none asks ends =
-    let command = commands.Compare from to output notes in
+    let command = commands.comparison from to output notes in
     done_so status
     (ends_so request files bytes out diag status statuses.Done
     (λ answer is. beside_output from to keep bytes output into notes answer none (as_asked request files bytes command answer asks is))
@@ -235,10 +235,10 @@ compares_output request files from to keep notes bytes output out diag status in
 pub compares_source : (request : Request) (files : Files) (from to : Format) (keep : Keep) (notes : Bool) (bytes output : List ℕ)
     → (out diag : Sinks) (status : Status) (into : ConvertsInto from to keep bytes output)
     → (notes ≡ true → first_refusal_in to keeps.All into.plays ≡ None) → length output ≤ most_input
-    → IsAsked files request (commands.Compare to from bytes notes)
+    → IsAsked files request (commands.comparison to from bytes notes)
     → Ends request files output out diag status → RefusesNothing status
 compares_source request files from to keep notes bytes output out diag status into none few asks ends =
-    let command = commands.Compare to from bytes notes in
+    let command = commands.comparison to from bytes notes in
     done_so status
     (ends_so request files output out diag status statuses.Done
     (λ answer is. before_source from to keep bytes output into notes answer none few (as_asked request files output command answer asks is))
@@ -247,11 +247,11 @@ compares_source request files from to keep notes bytes output out diag status in
 -- two files that are converted with all notes are the same if and only if their outputs are
 pub compares_outputs : (request : Request) (files : Files) (from other to : Format) (bytes too output written : List ℕ)
     → (out diag : Sinks) (status : Status) → ConvertsInto from to keeps.All bytes output → ConvertsInto other to keeps.All too written
-    → IsAsked files request (commands.Compare from other too true)
+    → IsAsked files request (commands.comparison from other too true)
     → Ends request files bytes out diag status
     → (AreSameIn to output written → RefusesNothing status) × (status ≡ statuses.Done → AreSameIn to output written)
 compares_outputs request files from other to bytes too output written out diag status into into_too asks ends =
-    let command = commands.Compare from other too true in
+    let command = commands.comparison from other too true in
     let plays = into.plays in
     let others = into_too.plays in
     let same = same_with_all plays others (read_sound (lawful_of from) bytes plays into.can.legal) (read_sound (lawful_of other) too others into_too.can.legal) in

@@ -31,8 +31,8 @@ use Rattle.poker_cli.proofs.ReadAlike.{refused_or_played}
 
 pub equal_answers : (from other to : Format) (keep : Keep) (bytes too : List ℕ) (plays others : List Play) (answer written : Answer)
     → ReadAsPlays (SayRecords from bytes) plays → ReadAsPlays (SayRecords other too) others
-    → IsAnswer (commands.Convert from to keep) bytes answer → answer.status ≡ statuses.Done
-    → IsAnswer (commands.Convert other to keep) too written → written.status ≡ statuses.Done
+    → IsAnswer (commands.conversion from to keep) bytes answer → answer.status ≡ statuses.Done
+    → IsAnswer (commands.conversion other to keep) too written → written.status ≡ statuses.Done
     → AreSameHands (kept_notes keep (kept_in to)) plays others ↔ AreSameIn to answer.output written.output
 equal_answers from other to keep bytes too plays others answer written read reads is done it done_too =
     equal_runs from other to keep bytes too answer.output written.output plays others read reads
@@ -50,7 +50,7 @@ record IsMadeOf (from to : Format) (keep : Keep) (bytes : List ℕ) (answer : An
 -- their plays
 made_of_plays : (from to : Format) (keep : Keep) (bytes : List ℕ) (answer : Answer) → length bytes ≤ most_input
     → ((fault : FormatFault) → HaveFault from bytes fault → ⊥) → ((number : ℕ) (why : Refusal) → ReadAsRefused (SayRecords from bytes) number why → ⊥)
-    → IsAnswer (commands.Convert from to keep) bytes answer → IsMadeOf from to keep bytes answer
+    → IsAnswer (commands.conversion from to keep) bytes answer → IsMadeOf from to keep bytes answer
 made_of_plays from to keep bytes _ few reads legal (answers.TooLong many) = absurd (omega (arith, many, few))
 made_of_plays from to keep bytes answer few reads legal (answers.Read less _ (parts.Unread fault have _ shown)) = absurd (reads fault have)
 made_of_plays from to keep bytes _ few reads legal (answers.Read less _ (parts.Refused number why first)) = absurd (legal number why first)
@@ -59,7 +59,7 @@ made_of_plays from to keep bytes answer few reads legal (answers.Read less _ (pa
 
 module _ (from to : Format) (keep : Keep) (bytes output : List ℕ) (into : ConvertsInto from to keep bytes output) where
   -- the bytes that are converted read as legal hands
-  source_made : (target : Format) (other : Keep) (answer : Answer) → IsAnswer (commands.Convert from target other) bytes answer → IsMadeOf from target other bytes answer
+  source_made : (target : Format) (other : Keep) (answer : Answer) → IsAnswer (commands.conversion from target other) bytes answer → IsMadeOf from target other bytes answer
   source_made target other answer is =
       let legal = into.can.legal in
       made_of_plays from target other bytes answer into.can.within
@@ -68,7 +68,7 @@ module _ (from to : Format) (keep : Keep) (bytes output : List ℕ) (into : Conv
       is
 
   -- and so does the output
-  output_made : (target : Format) (other : Keep) (answer : Answer) → length output ≤ most_input → IsAnswer (commands.Convert to target other) output answer
+  output_made : (target : Format) (other : Keep) (answer : Answer) → length output ≤ most_input → IsAnswer (commands.conversion to target other) output answer
       → IsMadeOf to target other output answer
   output_made target other answer few is =
       made_of_plays to target other output answer few into.back.no_fault
@@ -90,8 +90,8 @@ again_made from to once keep bytes output plays _ into read (in_convert.Spelled 
 )
 
 pub answer_again : (from to : Format) (once keep : Keep) (bytes : List ℕ) (answer other : Answer)
-    → IsAnswer (commands.Convert from to once) bytes answer → answer.status ≡ statuses.Done → length answer.output ≤ most_input
-    → IsAnswer (commands.Convert to to keep) answer.output other
+    → IsAnswer (commands.conversion from to once) bytes answer → answer.status ≡ statuses.Done → length answer.output ≤ most_input
+    → IsAnswer (commands.conversion to to keep) answer.output other
     → (other.status ≡ statuses.Done) × AreSameIn to answer.output other.output
 answer_again from to once keep bytes answer other is done few it =
     let into = done_into from to once bytes answer is done in
@@ -102,13 +102,13 @@ answer_again from to once keep bytes answer other is done few it =
 
 module _ (from by to : Format) (keep : Keep) (bytes output : List ℕ) (into : ConvertsInto from by keeps.All bytes output) (plays others : List Play)
     (read : ReadAsPlays (SayRecords from bytes) plays) (reads : ReadAsPlays (SayRecords by output) others) where
-  by_way_made : (first second : Answer) → IsConversion to keep plays first → IsConversion to keep others second → AreOneAnswer (commands.Convert from to keep) first second
+  by_way_made : (first second : Answer) → IsConversion to keep plays first → IsConversion to keep others second → AreOneAnswer (commands.conversion from to keep) first second
   by_way_made _ _ (in_convert.NotSpelled number fact is) (in_convert.NotSpelled count more it) =
       let same =
       same_answers (lawful_of from) (lawful_of by) (lawful_of to) keep bytes output (converted from by keeps.All bytes output into)
       (Err (faults.Unspelled number fact)) (Err (faults.Unspelled count more))
       (record { plays = plays; read = read; first = is }) (record { plays = others; read = reads; first = it }) in
-      one_itself (commands.Convert from to keep) (to_unspelled number fact) (to_unspelled count more) (ap₂ to_unspelled same.0 same.1)
+      one_itself (commands.Hands from (commands.Convert to keep)) (to_unspelled number fact) (to_unspelled count more) (ap₂ to_unspelled same.0 same.1)
   by_way_made _ _ (in_convert.NotSpelled number fact is) (in_convert.Spelled none again spell back) =
       absurd
       (same_answers (lawful_of from) (lawful_of by) (lawful_of to) keep bytes output (converted from by keeps.All bytes output into)
@@ -127,9 +127,9 @@ module _ (from by to : Format) (keep : Keep) (bytes output : List ℕ) (into : C
       (record { plays = others; read = reads; spelled = too; spell = spells; back = backs }))
 
 pub answers_by_way : (from by to : Format) (keep : Keep) (bytes : List ℕ) (way straight by_way : Answer)
-    → IsAnswer (commands.Convert from by keeps.All) bytes way → way.status ≡ statuses.Done → length way.output ≤ most_input
-    → IsAnswer (commands.Convert from to keep) bytes straight → IsAnswer (commands.Convert by to keep) way.output by_way
-    → AreOneAnswer (commands.Convert from to keep) straight by_way
+    → IsAnswer (commands.conversion from by keeps.All) bytes way → way.status ≡ statuses.Done → length way.output ≤ most_input
+    → IsAnswer (commands.conversion from to keep) bytes straight → IsAnswer (commands.conversion by to keep) way.output by_way
+    → AreOneAnswer (commands.conversion from to keep) straight by_way
 answers_by_way from by to keep bytes way straight by_way is done few one two =
     let into = done_into from by keeps.All bytes way is done in
     let first = source_made from by keeps.All bytes way.output into to keep straight one in

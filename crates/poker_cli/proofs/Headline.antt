@@ -55,7 +55,7 @@ not_unread fault answer status other shown same = other (subst IsUnread same (fa
 
 module _ (from to : Format) (keep : Keep) (bytes : List ℕ) where
   -- an answer that is done
-  pub done_into : (answer : Answer) → IsAnswer (commands.Convert from to keep) bytes answer → answer.status ≡ statuses.Done → ConvertsInto from to keep bytes answer.output
+  pub done_into : (answer : Answer) → IsAnswer (commands.conversion from to keep) bytes answer → answer.status ≡ statuses.Done → ConvertsInto from to keep bytes answer.output
   unfolding IsUnread
   done_into _ (answers.TooLong many) same = absurd (cc (same))
   done_into answer (answers.Read few _ (parts.Unread fault have _ shown)) same = absurd (not_unread fault answer statuses.Done (λ un. un) shown same)
@@ -66,7 +66,7 @@ module _ (from to : Format) (keep : Keep) (bytes : List ℕ) where
 
   module _ (out diag : Sinks) where
     -- a refused hand
-    refused_so : (answer : Answer) → IsAnswer (commands.Convert from to keep) bytes answer → answer.status ≡ statuses.Refused
+    refused_so : (answer : Answer) → IsAnswer (commands.conversion from to keep) bytes answer → answer.status ≡ statuses.Refused
         → PrintsAlone out diag answer.line → NamesRefused from bytes out diag
     unfolding IsUnread
     refused_so _ (answers.TooLong many) same shown = absurd (cc (same))
@@ -77,7 +77,7 @@ module _ (from to : Format) (keep : Keep) (bytes : List ℕ) where
     refused_so _ (answers.Read few _ (parts.Played plays read _ (in_convert.Spelled none output spell back))) same shown = absurd (cc (same))
 
     -- a fact that cannot be written
-    unspelled_so : (answer : Answer) → IsAnswer (commands.Convert from to keep) bytes answer → answer.status ≡ statuses.Unspelled
+    unspelled_so : (answer : Answer) → IsAnswer (commands.conversion from to keep) bytes answer → answer.status ≡ statuses.Unspelled
         → PrintsAlone out diag answer.line → NamesUnspelled from to keep bytes out diag
     unfolding IsUnread
     unspelled_so _ (answers.TooLong many) same shown = absurd (cc (same))
@@ -88,7 +88,7 @@ module _ (from to : Format) (keep : Keep) (bytes : List ℕ) where
     unspelled_so _ (answers.Read few _ (parts.Played plays read _ (in_convert.Spelled none output spell back))) same shown = absurd (cc (same))
 
     -- bytes that cannot be read
-    bad_so : (answer : Answer) → IsAnswer (commands.Convert from to keep) bytes answer → answer.status ≡ statuses.BadInput
+    bad_so : (answer : Answer) → IsAnswer (commands.conversion from to keep) bytes answer → answer.status ≡ statuses.BadInput
         → PrintsAlone out diag answer.line → NamesFault from bytes out diag statuses.BadInput
     bad_so _ (answers.TooLong many) same shown = absurd (cc (same))
     bad_so answer (answers.Read few _ (parts.Unread fault have _ is)) same shown =
@@ -98,7 +98,7 @@ module _ (from to : Format) (keep : Keep) (bytes : List ℕ) where
     bad_so _ (answers.Read few _ (parts.Played plays read _ (in_convert.Spelled none output spell back))) same shown = absurd (cc (same))
 
     -- bytes over a limit
-    limit_so : (answer : Answer) → IsAnswer (commands.Convert from to keep) bytes answer → answer.status ≡ statuses.Limit
+    limit_so : (answer : Answer) → IsAnswer (commands.conversion from to keep) bytes answer → answer.status ≡ statuses.Limit
         → PrintsAlone out diag answer.line → IsTooLong bytes out diag ⊎ NamesFault from bytes out diag statuses.Limit
     limit_so _ (answers.TooLong many) same shown = inl (record { beyond = many; shown = shown })
     limit_so answer (answers.Read few _ (parts.Unread fault have _ is)) same shown =
@@ -108,7 +108,7 @@ module _ (from to : Format) (keep : Keep) (bytes : List ℕ) where
     limit_so _ (answers.Read few _ (parts.Played plays read _ (in_convert.Spelled none output spell back))) same shown = absurd (cc (same))
 
   -- no question about one hand is asked
-  never_none : (answer : Answer) → IsAnswer (commands.Convert from to keep) bytes answer → answer.status ≡ statuses.NoSuch → ⊥
+  never_none : (answer : Answer) → IsAnswer (commands.conversion from to keep) bytes answer → answer.status ≡ statuses.NoSuch → ⊥
   unfolding IsUnread
   never_none _ (answers.TooLong many) same = cc (same)
   never_none answer (answers.Read few _ (parts.Unread fault have _ is)) same = not_unread fault answer statuses.NoSuch (λ un. un) is same
@@ -117,7 +117,7 @@ module _ (from to : Format) (keep : Keep) (bytes : List ℕ) where
   never_none _ (answers.Read few _ (parts.Played plays read _ (in_convert.Spelled none output spell back))) same = cc (same)
 
   -- nothing is compared
-  never_differs : (answer : Answer) → IsAnswer (commands.Convert from to keep) bytes answer → answer.status ≡ statuses.Differs → ⊥
+  never_differs : (answer : Answer) → IsAnswer (commands.conversion from to keep) bytes answer → answer.status ≡ statuses.Differs → ⊥
   unfolding IsUnread
   never_differs _ (answers.TooLong many) same = cc (same)
   never_differs answer (answers.Read few _ (parts.Unread fault have _ is)) same = not_unread fault answer statuses.Differs (λ un. un) is same
@@ -126,7 +126,7 @@ module _ (from to : Format) (keep : Keep) (bytes : List ℕ) where
   never_differs _ (answers.Read few _ (parts.Played plays read _ (in_convert.Spelled none output spell back))) same = cc (same)
 
   -- the game file has no part in it
-  never_game : (answer : Answer) → IsAnswer (commands.Convert from to keep) bytes answer → answer.status ≡ statuses.BadGame → ⊥
+  never_game : (answer : Answer) → IsAnswer (commands.conversion from to keep) bytes answer → answer.status ≡ statuses.BadGame → ⊥
   unfolding IsUnread
   never_game _ (answers.TooLong many) same = cc (same)
   never_game answer (answers.Read few _ (parts.Unread fault have _ is)) same = not_unread fault answer statuses.BadGame (λ un. un) is same
@@ -135,9 +135,9 @@ module _ (from to : Format) (keep : Keep) (bytes : List ℕ) where
   never_game _ (answers.Read few _ (parts.Played plays read _ (in_convert.Spelled none output spell back))) same = cc (same)
 
 -- if a shelf is asked for a file, a notation is that of logs: a conversion has no other file
-plain_alone : (file : Option (List ℕ)) (command : Command PlainNotation) (from to : Format) (keep : Keep) → HasFile file (in_plain_formats command) (commands.Convert from to keep)
+plain_alone : (file : Option (List ℕ)) (command : Command PlainNotation) (from to : Format) (keep : Keep) → HasFile file (in_plain_formats command) (commands.conversion from to keep)
     → has_other_file command ≡ true → ⊥
-plain_alone file (commands.Compare first other name notes) from to keep has reads = let same = has.1.1.1 in cc (same)
+plain_alone file (commands.Hands first (commands.Compare other name notes)) from to keep has reads = let same = has.1.1.1 in cc (same)
 plain_alone file command from to keep has reads = cc (reads)
 
 of_logs : (game : AnyGame) (first second : NotationName) → is_of_logs first || is_of_logs second ≡ true → IsOfLogs (format_under game first) ⊎ IsOfLogs (format_under game second)
@@ -145,16 +145,16 @@ of_logs game names.Acpc second log = inl tt
 of_logs game (names.Plain first) names.Acpc log = inr tt
 of_logs game (names.Plain first) (names.Plain second) log = cc (log)
 
-same_logs : (from to first second : Format) (keep kept : Keep) → commands.Convert from to keep ≡ commands.Convert first second kept
+same_logs : (from to first second : Format) (keep kept : Keep) → commands.conversion from to keep ≡ commands.conversion first second kept
     → IsOfLogs first ⊎ IsOfLogs second → IsOfLogs from ⊎ IsOfLogs to
 same_logs from to first second keep kept same (inl log) = inl (subst IsOfLogs (cc (same)) log)
 same_logs from to first second keep kept same (inr log) = inr (subst IsOfLogs (cc (same)) log)
 
 under_logs : (game : AnyGame) (file : Option (List ℕ)) (command : Command NotationName) (from to : Format) (keep : Keep)
-    → HasFile file (in_formats_under game command) (commands.Convert from to keep) → is_about_logs command ≡ true → IsOfLogs from ⊎ IsOfLogs to
-under_logs game file (commands.Convert first second kept) from to keep has log =
+    → HasFile file (in_formats_under game command) (commands.conversion from to keep) → is_about_logs command ≡ true → IsOfLogs from ⊎ IsOfLogs to
+under_logs game file (commands.Hands first (commands.Convert second kept)) from to keep has log =
     same_logs from to (format_under game first) (format_under game second) keep kept has (of_logs game first second log)
-under_logs game file (commands.Compare first other name notes) from to keep has log = let same = has.1.1.1 in cc (same)
+under_logs game file (commands.Hands first (commands.Compare other name notes)) from to keep has log = let same = has.1.1.1 in cc (same)
 under_logs game file command from to keep has log = cc (has)
 
 asks_for_logs : (files : Files) (request : Request) (from to : Format) (keep : Keep) → AsksToConvert files request from to keep
@@ -174,7 +174,7 @@ module _ (request : Request) (files : Files) (from to : Format) (keep : Keep) (b
   conversion_ends : (status : Status) → AsksToConvert files request from to keep → Ends request files bytes out diag status
       → IsLeft out diag status → ConversionEnds from to keep bytes out diag status
   conversion_ends statuses.Done found ends left =
-      let command = commands.Convert from to keep in
+      let command = commands.conversion from to keep in
       record {
         output = ends.answer.output;
         converts = done_into from to keep bytes ends.answer (as_asked request files bytes command ends.answer found ends.to_input) ends.ends;
@@ -182,7 +182,7 @@ module _ (request : Request) (files : Files) (from to : Format) (keep : Keep) (b
         quiet = left.quiet refl;
       }
   conversion_ends statuses.WriteFault found ends left =
-      let command = commands.Convert from to keep in
+      let command = commands.conversion from to keep in
       record {
         output = ends.answer.output;
         converts = done_into from to keep bytes ends.answer (as_asked request files bytes command ends.answer found ends.to_input) ends.ends.0;
@@ -191,30 +191,30 @@ module _ (request : Request) (files : Files) (from to : Format) (keep : Keep) (b
         shown = left.fixed;
       }
   conversion_ends statuses.Refused found ends left =
-      refused_so from to keep bytes out diag ends.answer (as_asked request files bytes (commands.Convert from to keep) ends.answer found ends.to_input) ends.ends
+      refused_so from to keep bytes out diag ends.answer (as_asked request files bytes (commands.Hands from (commands.Convert to keep)) ends.answer found ends.to_input) ends.ends
       (record { unwritten = left.unwritten tt; shown = ends.line })
   conversion_ends statuses.Unspelled found ends left =
-      unspelled_so from to keep bytes out diag ends.answer (as_asked request files bytes (commands.Convert from to keep) ends.answer found ends.to_input) ends.ends
+      unspelled_so from to keep bytes out diag ends.answer (as_asked request files bytes (commands.Hands from (commands.Convert to keep)) ends.answer found ends.to_input) ends.ends
       (record { unwritten = left.unwritten tt; shown = ends.line })
   conversion_ends statuses.BadInput found ends left =
-      bad_so from to keep bytes out diag ends.answer (as_asked request files bytes (commands.Convert from to keep) ends.answer found ends.to_input) ends.ends
+      bad_so from to keep bytes out diag ends.answer (as_asked request files bytes (commands.Hands from (commands.Convert to keep)) ends.answer found ends.to_input) ends.ends
       (record { unwritten = left.unwritten tt; shown = ends.line })
   conversion_ends statuses.Limit found ends left =
-      limit_so from to keep bytes out diag ends.answer (as_asked request files bytes (commands.Convert from to keep) ends.answer found ends.to_input) ends.ends
+      limit_so from to keep bytes out diag ends.answer (as_asked request files bytes (commands.Hands from (commands.Convert to keep)) ends.answer found ends.to_input) ends.ends
       (record { unwritten = left.unwritten tt; shown = ends.line })
   conversion_ends statuses.ReadFault found ends left = record { unwritten = left.unwritten tt; shown = left.fixed }
   conversion_ends statuses.Memory found ends left = (ends, record { unwritten = left.unwritten tt; shown = left.fixed })
   conversion_ends statuses.ShelfFault found ends left =
       (asks_for_logs files request from to keep found ends, record { unwritten = left.unwritten tt; shown = left.fixed })
   conversion_ends statuses.Usage found ends left = ends
-  conversion_ends statuses.GameMissing found ends left = no_missing files request (commands.Convert from to keep) found ends
+  conversion_ends statuses.GameMissing found ends left = no_missing files request (commands.conversion from to keep) found ends
   conversion_ends statuses.BadGame found ends left =
-      never_game from to keep bytes ends.answer (as_asked request files bytes (commands.Convert from to keep) ends.answer found ends.to_input) ends.ends
+      never_game from to keep bytes ends.answer (as_asked request files bytes (commands.Hands from (commands.Convert to keep)) ends.answer found ends.to_input) ends.ends
   conversion_ends statuses.NoSuch found ends left =
-      never_none from to keep bytes ends.answer (as_asked request files bytes (commands.Convert from to keep) ends.answer found ends.to_input) ends.ends
+      never_none from to keep bytes ends.answer (as_asked request files bytes (commands.Hands from (commands.Convert to keep)) ends.answer found ends.to_input) ends.ends
   conversion_ends statuses.Differs found ends left =
-      never_differs from to keep bytes ends.answer (as_asked request files bytes (commands.Convert from to keep) ends.answer found ends.to_input) ends.ends
-  conversion_ends statuses.FileMissing found ends left = no_file_missing files request (commands.Convert from to keep) found ends
+      never_differs from to keep bytes ends.answer (as_asked request files bytes (commands.Hands from (commands.Convert to keep)) ends.answer found ends.to_input) ends.ends
+  conversion_ends statuses.FileMissing found ends left = no_file_missing files request (commands.conversion from to keep) found ends
 
   -- an input that reads as hands is not reported as bad input or as over a limit
   conversion_reads : (status : Status) → ConversionEnds from to keep bytes out diag status → length bytes ≤ most_input

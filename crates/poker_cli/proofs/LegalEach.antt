@@ -7,6 +7,7 @@ use Rattle.command_words.specs.Words.{Request}
 use Rattle.command_words.specs.Command as commands
 use Rattle.command_words.specs.declared.command.EachQuestion.{EachQuestion}
 use Rattle.command_words.specs.declared.command.EachQuestion.TheVariants as of_each
+use Rattle.command_words.specs.declared.command.Question.TheVariants as questions
 use Rattle.convert_core.proofs.LawfulNotations.{no_fault}
 use Rattle.convert_core.proofs.OneConversion.{all_same}
 use Rattle.convert_core.proofs.OneOutcome.{AllTheSame, moved, turned}
@@ -91,7 +92,7 @@ found (of_each.Point hand events) records others answer same is = at_point hand 
 
 -- so it is for an input that reads as hands
 answered : (question : EachQuestion) (reader : Format) (bytes : List ℕ) (records : List Record) (answer : Answer) → length bytes ≤ most_input
-    → SayRecords reader bytes records → IsAnswer (commands.Each reader question) bytes answer → IsFound question records answer.status
+    → SayRecords reader bytes records → IsAnswer (commands.about (questions.Each question) reader) bytes answer → IsFound question records answer.status
 answered question reader bytes records _ few say (answers.TooLong many) = absurd (omega (arith, many, few))
 answered question reader bytes records answer few say (answers.Read less _ (each.NotRead fault have _ is)) = absurd (no_fault (lawful_of reader) bytes records fault say have)
 answered question reader bytes records answer few say (answers.Read less _ (each.OfEach others says _ is)) =
@@ -126,10 +127,10 @@ found_or_not question records status (inr (inl done)) = inl (subst RefusesNothin
 found_or_not question records status (inr (inr none)) = inr none
 
 pub legal_each : (request : Request) (question : EachQuestion) (reader : Format) (files : Files) (bytes : List ℕ) (records : List Record)
-    → (out diag : Sinks) (status : Status) → AsksOfHands files request (commands.Each reader question) bytes records
+    → (out diag : Sinks) (status : Status) → AsksOfHands files request (commands.about (questions.Each question) reader) bytes records
     → Ends request files bytes out diag status → RefusesNothing status ⊎ ((status ≡ statuses.NoSuch) × (IsThere question records → ⊥))
 legal_each request question reader files bytes records out diag status is ends =
-    let command = commands.Each reader question in
+    let command = commands.about (questions.Each question) reader in
     found_or_not question records status
     (ends_as request files bytes out diag status (IsFound question records)
     (λ answer to. answered question reader bytes records answer is.within is.say (as_asked request files bytes command answer is.asks to))
@@ -162,10 +163,10 @@ ends_absent request files bytes out diag statuses.NoSuch so there named ends = s
 ends_absent request files bytes out diag statuses.Differs so there named ends = subst FindsNone ends.ends (so ends.answer ends.to_input)
 
 pub absent_each : (request : Request) (question : EachQuestion) (reader : Format) (files : Files) (bytes : List ℕ) (records : List Record)
-    → (out diag : Sinks) (status : Status) → AsksOfHands files request (commands.Each reader question) bytes records
+    → (out diag : Sinks) (status : Status) → AsksOfHands files request (commands.about (questions.Each question) reader) bytes records
     → (IsThere question records → ⊥) → Ends request files bytes out diag status → FindsNone status
 absent_each request question reader files bytes records out diag status is absent ends =
-    let command = commands.Each reader question in
+    let command = commands.about (questions.Each question) reader in
     ends_absent request files bytes out diag status
     (λ answer to.
     absent_so question records answer.status absent

@@ -24,6 +24,7 @@ use Rattle.poker_cli.specs.declared.status.Status.TheVariants as statuses
 use Rattle.convert_core.specs.declared.format.Format.{Format}
 use Rattle.convert_core.specs.declared.format.Format.TheVariants as readers
 use Rattle.command_words.specs.Command as commands
+use Rattle.command_words.specs.declared.command.Question.TheVariants as questions
 use Rattle.poker_cli.proofs.OneAnswer.{as_asked, done_so, ends_so, legal_asked, legal_asks, no_file_missing, no_missing}
 use Rattle.poker_cli.proofs.OneReply.{at_place, not_fewer, not_other}
 
@@ -50,11 +51,11 @@ equity_counted hand street plays others play _ traced is board known (in_equity.
 
 -- so a run with this question refuses nothing
 pub legal_options : (request : Request) (hand events : ℕ) (reader : Format) (files : Files) (bytes : List ℕ) (plays : List Play) (play : Play)
-    → (out diag : Sinks) (status : Status) → AsksOfLegal files request (commands.Options reader hand events) bytes plays
+    → (out diag : Sinks) (status : Status) → AsksOfLegal files request (commands.about (questions.Options hand events) reader) bytes plays
     → hand_numbered plays hand ≡ Some play → events ≤ length play.hand.script
     → Ends request files bytes out diag status → RefusesNothing status
 legal_options request hand events reader files bytes plays play out diag status is here enough ends =
-    let command = commands.Options reader hand events in
+    let command = commands.about (questions.Options hand events) reader in
     done_so status
     (ends_so request files bytes out diag status statuses.Done
     (λ answer to.
@@ -63,11 +64,11 @@ legal_options request hand events reader files bytes plays play out diag status 
     (no_missing files request command is.asks) (no_file_missing files request command is.asks) ends)
 
 pub legal_equity : (request : Request) (hand street : ℕ) (reader : Format) (files : Files) (bytes : List ℕ) (plays : List Play) (play : Play)
-    → (out diag : Sinks) (status : Status) → AsksOfLegal files request (commands.Equity reader hand street) bytes plays
+    → (out diag : Sinks) (status : Status) → AsksOfLegal files request (commands.about (questions.Equity hand street) reader) bytes plays
     → hand_numbered plays hand ≡ Some play → deals_board play.trace street ≡ true → first_unknown play.trace street ≡ None
     → Ends request files bytes out diag status → RefusesNothing status
 legal_equity request hand street reader files bytes plays play out diag status is here board known ends =
-    let command = commands.Equity reader hand street in
+    let command = commands.about (questions.Equity hand street) reader in
     done_so status
     (ends_so request files bytes out diag status statuses.Done
     (λ answer to.
@@ -76,9 +77,9 @@ legal_equity request hand street reader files bytes plays play out diag status i
     (no_missing files request command is.asks) (no_file_missing files request command is.asks) ends)
 
 pub legal_seen : (request : Request) (game : Game) (seat : Seat) (files : Files) (bytes : List ℕ) (plays : List Play)
-    → (out diag : Sinks) (status : Status) → AsksOfLegal files request (commands.Views (readers.Acpc game) seat) bytes plays
+    → (out diag : Sinks) (status : Status) → AsksOfLegal files request (commands.about (questions.Views seat) (readers.Acpc game)) bytes plays
     → seat.number ≤ game.stacks.seats → length (each_view game seat 0 plays) ≤ most_view_bytes
     → Ends request files bytes out diag status → RefusesNothing status
 legal_seen request game seat files bytes plays out diag status is there short ends =
     done_so status
-    (legal_asks request (commands.Views (readers.Acpc game) seat) files bytes plays (done (each_view game seat 0 plays)) out diag status is (in_views.Seen there short) ends)
+    (legal_asks request (commands.about (questions.Views seat) (readers.Acpc game)) files bytes plays (done (each_view game seat 0 plays)) out diag status is (in_views.Seen there short) ends)

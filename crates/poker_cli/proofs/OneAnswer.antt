@@ -14,6 +14,7 @@ use Rattle.command_words.specs.Words.{Plain, Request, Under}
 use Rattle.command_words.specs.declared.notation.NotationName.{NotationName}
 use Rattle.command_words.specs.declared.notation.PlainNotation.{PlainNotation}
 use Rattle.command_words.specs.declared.command.EachQuestion.{EachQuestion}
+use Rattle.command_words.specs.declared.command.Question.TheVariants as questions
 use Rattle.hand_canon.specs.declared.record.Record.{Record}
 use Rattle.hand_canon.specs.declared.writing.Keep.{Keep}
 use Rattle.hand_canon.specs.declared.writing.Unspelled.{Unspelled}
@@ -131,7 +132,7 @@ same_game (p ∷ ps) (q ∷ qs) traced = ap (λ (trace : Trace). to_first_game (
 
 -- the same answer counts as one
 pub one_itself : (command : Command Format) (answer other : Answer) → answer ≡ other → AreOneAnswer command answer other
-one_itself (commands.Convert from readers.Phh keep) answer other same =
+one_itself (commands.Hands from (commands.Convert readers.Phh keep)) answer other same =
     record {
       status = ap (λ (a : Answer). a.status) same;
       line = ap (λ (a : Answer). a.line) same;
@@ -141,11 +142,11 @@ one_itself command answer other same = same
 
 -- and has one status
 one_status : (command : Command Format) (answer other : Answer) → AreOneAnswer command answer other → answer.status ≡ other.status
-one_status (commands.Convert from readers.Phh keep) answer other one = one.status
+one_status (commands.Hands from (commands.Convert readers.Phh keep)) answer other one = one.status
 one_status command answer other one = ap (λ (a : Answer). a.status) one
 
 -- the same output counts as one
-pub one_output : (from to : Format) (keep : Keep) (bytes others : List ℕ) → AreSameIn to bytes others → AreOneAnswer (commands.Convert from to keep) (done bytes) (done others)
+pub one_output : (from to : Format) (keep : Keep) (bytes others : List ℕ) → AreSameIn to bytes others → AreOneAnswer (commands.conversion from to keep) (done bytes) (done others)
 one_output from readers.Phh keep bytes others same = record { status = refl; line = refl; document = same.first ∙ sym same.second }
 one_output from _ keep bytes others same = ap done same
 
@@ -158,9 +159,9 @@ refusals_same : (number count : ℕ) (fact other : Unspelled) → refusals.Unspe
 refusals_same number count fact other same = ap₂ to_unspelled (cc) (cc)
 
 one_conversion : (from to : Format) (keep : Keep) (ps qs : List Play) (answer other : Answer) → AreReadSame ps qs
-    → IsConversion to keep ps answer → IsConversion to keep qs other → AreOneAnswer (commands.Convert from to keep) answer other
+    → IsConversion to keep ps answer → IsConversion to keep qs other → AreOneAnswer (commands.conversion from to keep) answer other
 one_conversion from to keep ps qs _ _ alike (in_convert.NotSpelled number fact is) (in_convert.NotSpelled count more it) =
-    one_itself (commands.Convert from to keep) (to_unspelled number fact) (to_unspelled count more)
+    one_itself (commands.Hands from (commands.Convert to keep)) (to_unspelled number fact) (to_unspelled count more)
     (refusals_same number count fact more
     (same_Some (refusals.Unspelled number fact) (refusals.Unspelled count more) (sym is ∙ refusal_same to keep ps qs alike ∙ it)))
 one_conversion from to keep ps qs _ _ alike (in_convert.NotSpelled number fact is) (in_convert.Spelled none bytes spell back) =
@@ -180,21 +181,21 @@ one_message reader seat ps qs answer other traced alike is it = is ∙ sym it
 one_reply : (command : Command Format) (ps qs : List Play) (answer other : Answer) → All IsLegalPlay ps → AllTraced ps qs
     → AllAlike (hands_of ps) (hands_of qs) → AreReadSame ps qs
     → IsReply command ps answer → IsReply command qs other → AreOneAnswer command answer other
-one_reply (commands.Check from) ps qs answer other judged traced alike same is it = is ∙ ap done (same_check ps qs traced) ∙ sym it
-one_reply (commands.Replay from) ps qs answer other judged traced alike same is it =
+one_reply (commands.Hands from (commands.About questions.Check)) ps qs answer other judged traced alike same is it = is ∙ ap done (same_check ps qs traced) ∙ sym it
+one_reply (commands.Hands from (commands.About questions.Replay)) ps qs answer other judged traced alike same is it =
     is ∙ ap done (same_lines replay_lines same_replay_lines 1 ps qs traced) ∙ sym it
-one_reply (commands.Report from) ps qs answer other judged traced alike same is it =
+one_reply (commands.Hands from (commands.About questions.Report)) ps qs answer other judged traced alike same is it =
     is ∙ ap (λ (hands : List Hand). done (report_on hands)) (same_hands ps qs judged traced alike) ∙ sym it
-one_reply (commands.Session from) ps qs answer other judged traced alike same is it =
+one_reply (commands.Hands from (commands.About questions.Session)) ps qs answer other judged traced alike same is it =
     is ∙ ap (λ (hands : List SessionHand). done (session_printed (session_of hands))) (same_sessions ps qs traced alike) ∙ sym it
-one_reply (commands.Game from) ps qs answer other judged traced alike same is it = is.shown ∙ same_game ps qs traced ∙ sym it.shown
-one_reply (commands.Options from hand events) ps qs answer other judged traced alike same is it = one_options hand events ps qs answer other traced is it
-one_reply (commands.Equity from hand street) ps qs answer other judged traced alike same is it = one_equity hand street ps qs answer other traced is it
-one_reply (commands.Judge from lines) ps qs answer other judged traced alike same is it = absurd is
-one_reply (commands.Each from question) ps qs answer other judged traced alike same is it = absurd is
-one_reply (commands.Views from seat) ps qs answer other judged traced alike same is it = one_message from seat ps qs answer other traced alike is it
-one_reply (commands.Convert from to keep) ps qs answer other judged traced alike same is it = one_conversion from to keep ps qs answer other same is it
-one_reply (commands.Compare from with_notation file notes) ps qs answer other judged traced alike same is it =
+one_reply (commands.Hands from (commands.About questions.Game)) ps qs answer other judged traced alike same is it = is.shown ∙ same_game ps qs traced ∙ sym it.shown
+one_reply (commands.Hands from (commands.About (questions.Options hand events))) ps qs answer other judged traced alike same is it = one_options hand events ps qs answer other traced is it
+one_reply (commands.Hands from (commands.About (questions.Equity hand street))) ps qs answer other judged traced alike same is it = one_equity hand street ps qs answer other traced is it
+one_reply (commands.Hands from (commands.About (questions.Judge lines))) ps qs answer other judged traced alike same is it = absurd is
+one_reply (commands.Hands from (commands.About (questions.Each question))) ps qs answer other judged traced alike same is it = absurd is
+one_reply (commands.Hands from (commands.About (questions.Views seat))) ps qs answer other judged traced alike same is it = one_message from seat ps qs answer other traced alike is it
+one_reply (commands.Hands from (commands.Convert to keep)) ps qs answer other judged traced alike same is it = one_conversion from to keep ps qs answer other same is it
+one_reply (commands.Hands from (commands.Compare with_notation file notes)) ps qs answer other judged traced alike same is it =
     one_compared with_notation notes file ps qs answer other same is it
 one_reply (commands.Load seed hands) ps qs answer other judged traced alike same is it = absurd is
 
@@ -277,26 +278,26 @@ one_made command =
 -- the answer is made of the plays of an input: neither a verdict is asked for, nor an answer of each
 -- hand by itself, nor are hands generated
 abbrev pub IsOfPlays : Command Format → Type 0
-IsOfPlays (commands.Judge from lines) = ⊥
-IsOfPlays (commands.Each from question) = ⊥
+IsOfPlays (commands.Hands from (commands.About (questions.Judge lines))) = ⊥
+IsOfPlays (commands.Hands from (commands.About (questions.Each question))) = ⊥
 IsOfPlays (commands.Load seed hands) = ⊥
 IsOfPlays command = Unit {0}
 
 -- so the answer is made of plays
 of_plays : (command : Command Format) (Say : List Record → Type 0) (HaveFault : FormatFault → Type 0) (lines : List ℕ) (answer : Answer)
     → IsOfPlays command → IsAnswerOf command Say HaveFault lines answer → IsAnswerTo Say HaveFault (IsReply command) answer
-of_plays (commands.Judge from asked) Say HaveFault lines answer of is = absurd of
-of_plays (commands.Each from question) Say HaveFault lines answer of is = absurd of
+of_plays (commands.Hands from (commands.About (questions.Judge asked))) Say HaveFault lines answer of is = absurd of
+of_plays (commands.Hands from (commands.About (questions.Each question))) Say HaveFault lines answer of is = absurd of
 of_plays (commands.Load seed hands) Say HaveFault lines answer of is = absurd of
 of_plays command Say HaveFault lines answer of is = is
 
 one_read : (command : Command Format) (reader : Format) (bytes : List ℕ) (answer other : Answer)
     → IsAnswerOf command (SayRecords reader bytes) (HaveFault reader bytes) (start_lines reader bytes) answer
     → IsAnswerOf command (SayRecords reader bytes) (HaveFault reader bytes) (start_lines reader bytes) other → AreOneAnswer command answer other
-one_read (commands.Each from question) reader bytes answer other is it =
+one_read (commands.Hands from (commands.About (questions.Each question))) reader bytes answer other is it =
     same_of_each (SayRecords reader bytes) (HaveFault reader bytes) question answer other
     ((lawful_of reader).one_reading bytes) (one_told reader bytes) (say_or_fault reader bytes) is it
-one_read (commands.Judge from asked) reader bytes answer other is it =
+one_read (commands.Hands from (commands.About (questions.Judge asked))) reader bytes answer other is it =
     same_judgement (SayRecords reader bytes) (HaveFault reader bytes) (if_asked asked (start_lines reader bytes)) answer other
     ((lawful_of reader).one_reading bytes) (one_told reader bytes) (say_or_fault reader bytes) is it
 one_read command reader bytes answer other is it =
@@ -374,22 +375,22 @@ legal_asked command bytes plays answer of few read to = asked_by (input_of comma
 -- so its status is known
 shown_status : (command : Command Format) (plays : List Play) (answer : Answer) → PrintsAll command
     → IsMadeAlike (IsReply command) plays answer → answer.status ≡ statuses.Done
-shown_status (commands.Check from) plays answer prints is = ap (λ (a : Answer). a.status) is.made
-shown_status (commands.Replay from) plays answer prints is = ap (λ (a : Answer). a.status) is.made
-shown_status (commands.Report from) plays answer prints is = ap (λ (a : Answer). a.status) is.made
-shown_status (commands.Session from) plays answer prints is = ap (λ (a : Answer). a.status) is.made
+shown_status (commands.Hands from (commands.About questions.Check)) plays answer prints is = ap (λ (a : Answer). a.status) is.made
+shown_status (commands.Hands from (commands.About questions.Replay)) plays answer prints is = ap (λ (a : Answer). a.status) is.made
+shown_status (commands.Hands from (commands.About questions.Report)) plays answer prints is = ap (λ (a : Answer). a.status) is.made
+shown_status (commands.Hands from (commands.About questions.Session)) plays answer prints is = ap (λ (a : Answer). a.status) is.made
 shown_status command plays answer prints is = absurd prints
 
 shown_of_plays : (command : Command Format) → PrintsAll command → IsOfPlays command
-shown_of_plays (commands.Judge from lines) prints = prints
-shown_of_plays (commands.Each from question) prints = prints
+shown_of_plays (commands.Hands from (commands.About (questions.Judge lines))) prints = prints
+shown_of_plays (commands.Hands from (commands.About (questions.Each question))) prints = prints
 shown_of_plays (commands.Load seed hands) prints = prints
 shown_of_plays command prints = tt
 
 -- what is made of plays is neither a verdict nor an answer of each hand by itself
 reply_of_plays : (command : Command Format) (plays : List Play) (reply : Answer) → IsReply command plays reply → IsOfPlays command
-reply_of_plays (commands.Judge from lines) plays reply is = is
-reply_of_plays (commands.Each from question) plays reply is = is
+reply_of_plays (commands.Hands from (commands.About (questions.Judge lines))) plays reply is = is
+reply_of_plays (commands.Hands from (commands.About (questions.Each question))) plays reply is = is
 reply_of_plays (commands.Load seed hands) plays reply is = is
 reply_of_plays command plays reply is = tt
 
@@ -399,7 +400,7 @@ asked_status command plays answer reply to is =
     sym (one_status command reply answer (one_reply command plays is.others reply answer is.judged is.traced is.hands is.same to is.made))
 
 judged_status : (asked : Bool) (reader : Format) (bytes : List ℕ) (records : List Record) (answer : Answer) → length bytes ≤ most_input
-    → SayRecords reader bytes records → IsAnswer (commands.Judge reader asked) bytes answer → answer.status ≡ statuses.Done
+    → SayRecords reader bytes records → IsAnswer (commands.about (questions.Judge asked) reader) bytes answer → answer.status ≡ statuses.Done
 judged_status asked reader bytes records _ few say (answers.TooLong many) = absurd (omega (arith, many, few))
 judged_status asked reader bytes records answer few say (answers.Read less _ (in_judge.NotJudged fault have _ is)) = absurd (no_fault (lawful_of reader) bytes records fault say have)
 judged_status asked reader bytes records _ few say (answers.Read less _ (in_judge.Judged others says verdicts are)) = refl
@@ -444,16 +445,16 @@ games_same file game other gives too =
 
 -- a command has one other file
 one_file : (file : Option (List ℕ)) (named asked other : Command Format) → HasFile file named asked → HasFile file named other → asked ≡ other
-one_file file (commands.Compare from to name notes) asked other has it =
+one_file file (commands.Hands from (commands.Compare to name notes)) asked other has it =
     has.1.1.1
-    ∙ ap (λ (text : List ℕ). commands.Compare from to text notes) (same_Some has.0 it.0 (sym has.1.0 ∙ it.1.0))
+    ∙ ap (λ (text : List ℕ). commands.comparison from to text notes) (same_Some has.0 it.0 (sym has.1.0 ∙ it.1.0))
     ∙ sym it.1.1.1
 one_file file named asked other has it = has ∙ sym it
 
 -- and one that is within the limit
 not_too_long : (file : Option (List ℕ)) (named asked : Command Format) (text : List ℕ) → HasFile file named asked → has_other_file named ≡ true → file ≡ Some text
     → most_input < length text → ⊥
-not_too_long file (commands.Compare from to name notes) asked text has reads is many =
+not_too_long file (commands.Hands from (commands.Compare to name notes)) asked text has reads is many =
     let same : has.0 ≡ text = same_Some has.0 text (sym has.1.0 ∙ is) in
     let few : length text ≤ most_input = subst (λ (t : List ℕ). length t ≤ most_input) same has.1.1.0 in
     absurd (omega (arith, few, many))
@@ -477,12 +478,12 @@ as_asked (Under name command) files bytes asked answer found (answers.InGame gam
 -- a request for a command misses no game file and no other file
 plain_there : (file : Option (List ℕ)) (command : Command PlainNotation) (asked : Command Format) → HasFile file (in_plain_formats command) asked
     → IsMissing (file_of command) file → ⊥
-plain_there file (commands.Compare from to name notes) asked has missing = let there = has.1.0 in cc (there, missing)
+plain_there file (commands.Hands from (commands.Compare to name notes)) asked has missing = let there = has.1.0 in cc (there, missing)
 plain_there file command asked has missing = missing
 
 under_there : (game : AnyGame) (file : Option (List ℕ)) (command : Command NotationName) (asked : Command Format) → HasFile file (in_formats_under game command) asked
     → IsMissing (file_of command) file → ⊥
-under_there game file (commands.Compare from to name notes) asked has missing = let there = has.1.0 in cc (there, missing)
+under_there game file (commands.Hands from (commands.Compare to name notes)) asked has missing = let there = has.1.0 in cc (there, missing)
 under_there game file command asked has missing = missing
 
 pub no_missing : (files : Files) (request : Request) (asked : Command Format) → IsAsked files request asked → IsGameMissing request files → ⊥
@@ -542,11 +543,11 @@ legal_asks request command files bytes plays reply out diag status is to ends =
 
 -- hands are judged, including refused ones
 pub all_judged : (request : Request) (asked : Bool) (reader : Format) (files : Files) (bytes : List ℕ) (records : List Record)
-    → (out diag : Sinks) (status : Status) → IsAsked files request (commands.Judge reader asked)
+    → (out diag : Sinks) (status : Status) → IsAsked files request (commands.about (questions.Judge asked) reader)
     → length bytes ≤ most_input → SayRecords reader bytes records
     → Ends request files bytes out diag status → RefusesNothing status
 all_judged request asked reader files bytes records out diag status found few is ends =
-    let command = commands.Judge reader asked in
+    let command = commands.about (questions.Judge asked) reader in
     done_so status
     (ends_so request files bytes out diag status statuses.Done
     (λ answer to. judged_status asked reader bytes records answer few is (as_asked request files bytes command answer found to))
@@ -554,11 +555,11 @@ all_judged request asked reader files bytes records out diag status found few is
 
 -- hands whose facts can all be written are converted
 pub legal_in_way : (request : Request) (reader target : Format) (keep : Keep) (files : Files) (bytes : List ℕ) (plays : List Play)
-    → (out diag : Sinks) (status : Status) → AsksOfLegal files request (commands.Convert reader target keep) bytes plays
+    → (out diag : Sinks) (status : Status) → AsksOfLegal files request (commands.conversion reader target keep) bytes plays
     → first_refusal_in target keep plays ≡ None
     → Ends request files bytes out diag status → RefusesNothing status
 legal_in_way request reader target keep files bytes plays out diag status is none ends =
-    let command = commands.Convert reader target keep in
+    let command = commands.conversion reader target keep in
     done_so status
     (ends_so request files bytes out diag status statuses.Done
     (λ answer given. converted_status target keep plays answer none

@@ -8,6 +8,7 @@ use Rattle.command_words.specs.Command as commands
 use Rattle.command_words.specs.Command.{Command, input_of}
 use Rattle.command_words.specs.declared.command.EachQuestion.{EachQuestion}
 use Rattle.command_words.specs.declared.command.EachQuestion.TheVariants as of_each
+use Rattle.command_words.specs.declared.command.Question.TheVariants as questions
 use Rattle.convert_core.specs.Faults.{excess_of}
 use Rattle.convert_core.specs.declared.format_fault.FormatFault.{FormatFault}
 use Rattle.first_fault.specs.declared.limits.Quantity.{Quantity}
@@ -117,15 +118,15 @@ beside_own other notes file plays _ (in_compare.OtherRefused number why is) = tt
 beside_own other notes file plays _ (in_compare.OtherPlayed others read) = both_own (first_different notes 0 plays others) (length plays) (length others)
 
 reply_own : (command : Command Format) (plays : List Play) (answer : Answer) → IsReply command plays answer → IsOfInput answer.status
-reply_own (commands.Game from) plays answer is = same_own answer _ is.shown (first_game_own plays)
-reply_own (commands.Options from hand events) plays answer is = options_own hand events plays answer is
-reply_own (commands.Equity from hand street) plays answer is = equity_own hand street plays answer is
-reply_own (commands.Judge from lines) plays answer is = absurd is
-reply_own (commands.Each from question) plays answer is = absurd is
+reply_own (commands.Hands from (commands.About questions.Game)) plays answer is = same_own answer _ is.shown (first_game_own plays)
+reply_own (commands.Hands from (commands.About (questions.Options hand events))) plays answer is = options_own hand events plays answer is
+reply_own (commands.Hands from (commands.About (questions.Equity hand street))) plays answer is = equity_own hand street plays answer is
+reply_own (commands.Hands from (commands.About (questions.Judge lines))) plays answer is = absurd is
+reply_own (commands.Hands from (commands.About (questions.Each question))) plays answer is = absurd is
 reply_own (commands.Load seed hands) plays answer is = absurd is
-reply_own (commands.Views from seat) plays answer is = message_own from seat plays answer is
-reply_own (commands.Convert from to keep) plays answer is = written_own _ _ _ plays answer is
-reply_own (commands.Compare from other file notes) plays answer is = beside_own other notes file plays answer is
+reply_own (commands.Hands from (commands.About (questions.Views seat))) plays answer is = message_own from seat plays answer is
+reply_own (commands.Hands from (commands.Convert to keep)) plays answer is = written_own _ _ _ plays answer is
+reply_own (commands.Hands from (commands.Compare other file notes)) plays answer is = beside_own other notes file plays answer is
 reply_own command plays answer is = same_own answer _ is tt
 
 -- ---- the answer to bytes
@@ -164,8 +165,8 @@ each_own Say HaveFault question answer (each.OfEach records say _ is) = of_each_
 
 command_own : (command : Command Format) (Say : List Record → Type 0) (HaveFault : FormatFault → Type 0) (lines : List ℕ) (answer : Answer)
     → IsAnswerOf command Say HaveFault lines answer → IsOfInput answer.status
-command_own (commands.Judge from asked) Say HaveFault lines answer is = judged_own Say HaveFault (if_asked asked lines) answer is
-command_own (commands.Each from question) Say HaveFault lines answer is = each_own Say HaveFault question answer is
+command_own (commands.Hands from (commands.About (questions.Judge asked))) Say HaveFault lines answer is = judged_own Say HaveFault (if_asked asked lines) answer is
+command_own (commands.Hands from (commands.About (questions.Each question))) Say HaveFault lines answer is = each_own Say HaveFault question answer is
 command_own command Say HaveFault lines answer is = made_own Say HaveFault (IsReply command) (reply_own command) answer is
 
 own_from : (command : Command Format) (reader : Format) (bytes : List ℕ) (answer : Answer) → IsAnswerFrom command reader bytes answer → IsOfInput answer.status

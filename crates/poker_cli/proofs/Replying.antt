@@ -5,6 +5,7 @@ use Rattle.std.proofs.lemmas.Result.{IfErr-weaker}
 use Rattle.command_words.specs.Command as commands
 use Rattle.command_words.specs.Command.{Command, command_in, file_of, has_input, has_other_file, with_notations}
 use Rattle.command_words.specs.declared.command.Command as made_command
+use Rattle.command_words.specs.declared.command.Ask.TheVariants as asks
 use Rattle.command_words.specs.declared.command.Command.TheVariants as cases
 use Rattle.acpc_game.specs.declared.game.Game.{Game}
 use Rattle.convert_core.specs.Conversion.{IsPlaysRefusal}
@@ -73,12 +74,12 @@ kept_there None name file input read found = tt
 
 -- a command that reads no other file names none, and stays the same whatever the other file is
 pub names_none : (command : made_command.Command Format) (name : List ℕ) → has_other_file (command_in name command) ≡ false → file_of (command_in name command) ≡ None
-names_none (cases.Compare from other notes) name none = cc (none)
+names_none (cases.Hands from (asks.Compare other notes)) name none = cc (none)
 names_none command name none = refl
 
 plain_file : (command : made_command.Command Format) (name text : List ℕ) (file : Option (List ℕ)) → has_other_file (command_in name command) ≡ false
     → HasFile file (command_in name command) (command_in text command)
-plain_file (cases.Compare from other notes) name text file none = cc (none)
+plain_file (cases.Hands from (asks.Compare other notes)) name text file none = cc (none)
 plain_file command name text file none = refl
 
 -- a name that is not given
@@ -140,12 +141,12 @@ module _ (shown : Option FilesByName) (left : Option (List ℕ)) (command : made
 -- ---- a command with another file
 
 names_it : (command : made_command.Command Format) (name : List ℕ) → has_other_file (command_in name command) ≡ true → file_of (command_in name command) ≡ Some name
-names_it (cases.Compare from other notes) name reads = refl
+names_it (cases.Hands from (asks.Compare other notes)) name reads = refl
 names_it command name reads = cc (reads)
 
 has_file : (command : made_command.Command Format) (name text : List ℕ) (file : Option (List ℕ)) → has_other_file (command_in name command) ≡ true
     → file ≡ Some text → length text ≤ most_input → HasFile file (command_in name command) (command_in text command)
-has_file (cases.Compare from other notes) name text file reads there few = (text, (there, (few, refl)))
+has_file (cases.Hands from (asks.Compare other notes)) name text file reads there few = (text, (there, (few, refl)))
 has_file command name text file reads there few = cc (reads)
 
 -- the file of a name has these bytes
@@ -239,9 +240,10 @@ module _ (shown : Option FilesByName) (left : Option (List ℕ)) (command : made
 
 -- the notations have no part in what a command needs
 pub same_needs : {N M : Type 0} (meaning : N → M) (game : Option (List ℕ)) (command : Command N) → needs game (with_notations meaning command) ≡ needs game command
-same_needs meaning game (commands.Compare from other file notes) = refl
 same_needs meaning game (commands.Load seed hands) = refl
-same_needs meaning game command = refl
+same_needs meaning game (commands.Hands from (commands.About question)) = refl
+same_needs meaning game (commands.Hands from (commands.Convert to keep)) = refl
+same_needs meaning game (commands.Hands from (commands.Compare other file notes)) = refl
 
 module _ (shown : Option FilesByName) (left : Option (List ℕ)) (name : List ℕ) (command : Command NotationName) (game : Game)
     (gives : OfFile shown name (λ file. GivesGame file game)) where

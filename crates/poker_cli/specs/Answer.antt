@@ -4,8 +4,10 @@
 use Rattle.std.specs.Prelude.{◌≡◌, ℕ, ◌<◌, ◌≤◌, true, List, length, Option, Some, None}
 use Rattle.acpc_game.specs.declared.game.Game.{Game}
 use Rattle.command_words.specs.Command as commands
-use Rattle.command_words.specs.Command.{Command, has_other_file, input_of}
+use Rattle.command_words.specs.Command.{Ask, Command, has_other_file, input_of}
 use Rattle.command_words.specs.Words.{Plain, Request, Under}
+use Rattle.command_words.specs.declared.command.Question.{Question}
+use Rattle.command_words.specs.declared.command.Question.TheVariants as questions
 use Rattle.command_words.specs.declared.notation.NotationName.{NotationName}
 use Rattle.convert_core.specs.declared.format_fault.FormatFault.{FormatFault}
 use Rattle.hand_canon.specs.declared.record.Record.{Record}
@@ -32,31 +34,41 @@ use Rattle.printed_hands.specs.Check.{check_said}
 use Rattle.printed_hands.specs.Replay.{replay_said}
 use Rattle.printed_hands.specs.Report.{report_said}
 
--- the answer to a command about hands that are all legal and agree with what is stated of them;
--- verdicts, answers of each hand by itself, and summaries of made hands are not made of plays
-abbrev pub IsReply : Command Format → List Play → Answer → Type 0
-IsReply (commands.Check from) plays answer = answer ≡ done (check_said plays)
-IsReply (commands.Replay from) plays answer = answer ≡ done (replay_said plays)
-IsReply (commands.Report from) plays answer = answer ≡ done (report_said plays)
-IsReply (commands.Session from) plays answer = answer ≡ done (session_printed (session_said plays))
-IsReply (commands.Game from) plays answer = IsGameReply plays answer
-IsReply (commands.Options from hand events) plays answer = AreOptionsAt hand events plays answer
-IsReply (commands.Equity from hand street) plays answer = IsEquityAt hand street plays answer
-IsReply (commands.Judge from lines) plays answer = ⊥
-IsReply (commands.Each from question) plays answer = ⊥
-IsReply (commands.Views from seat) plays answer = AreMessages from seat plays answer
-IsReply (commands.Convert from to keep) plays answer = IsConversion to keep plays answer
-IsReply (commands.Compare from other file notes) plays answer =
+-- the answer to a question about hands that are all legal and agree with what is stated of them;
+-- verdicts and answers of each hand by itself are not made of plays
+abbrev pub IsReplyTo : Question → (reader : Format) → List Play → Answer → Type 0
+IsReplyTo questions.Check reader plays answer = answer ≡ done (check_said plays)
+IsReplyTo questions.Replay reader plays answer = answer ≡ done (replay_said plays)
+IsReplyTo questions.Report reader plays answer = answer ≡ done (report_said plays)
+IsReplyTo questions.Session reader plays answer =
+    answer ≡ done (session_printed (session_said plays))
+IsReplyTo questions.Game reader plays answer = IsGameReply plays answer
+IsReplyTo (questions.Options hand events) reader plays answer =
+    AreOptionsAt hand events plays answer
+IsReplyTo (questions.Equity hand street) reader plays answer = IsEquityAt hand street plays answer
+IsReplyTo (questions.Judge lines) reader plays answer = ⊥
+IsReplyTo (questions.Views seat) reader plays answer = AreMessages reader seat plays answer
+IsReplyTo (questions.Each question) reader plays answer = ⊥
+
+-- the answer to what is asked about such hands
+abbrev pub IsReplyAbout : Ask Format → (reader : Format) → List Play → Answer → Type 0
+IsReplyAbout (commands.About question) reader plays answer = IsReplyTo question reader plays answer
+IsReplyAbout (commands.Convert to keep) reader plays answer = IsConversion to keep plays answer
+IsReplyAbout (commands.Compare other file notes) reader plays answer =
     IsComparedWith other notes file plays answer
+
+-- the answer to a command about such hands; summaries of made hands are not made of plays
+abbrev pub IsReply : Command Format → List Play → Answer → Type 0
 IsReply (commands.Load seed hands) plays answer = ⊥
+IsReply (commands.Hands from ask) plays answer = IsReplyAbout ask from plays answer
 
 -- the answer to bytes whose hands begin on these lines, by what is asked about their hands
 abbrev pub IsAnswerOf : Command Format → (List Record → Type 0) → (FormatFault → Type 0)
     → (lines : List ℕ) → Answer → Type 0
-IsAnswerOf (commands.Each from question) Say HaveFault lines answer =
-    IsAnswerOfEach Say HaveFault question answer
-IsAnswerOf (commands.Judge from asked) Say HaveFault lines answer =
-    IsJudgement Say HaveFault (if_asked asked lines) answer
+IsAnswerOf (commands.Hands from (commands.About (questions.Each question))) Say HaveFault lines
+    answer = IsAnswerOfEach Say HaveFault question answer
+IsAnswerOf (commands.Hands from (commands.About (questions.Judge asked))) Say HaveFault lines
+    answer = IsJudgement Say HaveFault (if_asked asked lines) answer
 IsAnswerOf command Say HaveFault lines answer = IsAnswerTo Say HaveFault (IsReply command) answer
 
 -- The answer to a command about the bytes of an input, which is read in this notation.

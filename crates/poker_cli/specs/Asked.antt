@@ -3,7 +3,7 @@
 use Rattle.std.specs.Prelude.{◌≡◌, ℕ, ◌≤◌, List, length, Option, Some}
 use Rattle.acpc_game.specs.declared.game.Game.{Game}
 use Rattle.command_words.specs.Command as commands
-use Rattle.command_words.specs.Command.{Command}
+use Rattle.command_words.specs.Command.{Command, comparison}
 use Rattle.command_words.specs.Words.{Plain, Request, Under}
 use Rattle.command_words.specs.declared.notation.NotationName.{NotationName}
 use Rattle.convert_core.specs.declared.format.Format.{Format}
@@ -15,9 +15,9 @@ use Rattle.poker_cli.specs.NamedFormats.{in_formats_under, in_plain_formats}
 -- A command that names another file has the bytes of that file in place of its name: the file is
 -- there, and within the limit. Any other command is the same.
 abbrev pub HasFile : Option (List ℕ) → (named asked : Command Format) → Type 0
-HasFile file (commands.Compare from other name notes) asked =
+HasFile file (commands.Hands from (commands.Compare other name notes)) asked =
     (text : List ℕ) × ((file ≡ Some text) × ((length text ≤ most_input)
-    × (asked ≡ commands.Compare from other text notes)))
+    × (asked ≡ comparison from other text notes)))
 HasFile file named asked = asked ≡ named
 
 -- A command is this one if logs are under the game in its game file.

@@ -26,12 +26,12 @@ use Rattle.poker_cli.specs.declared.status.Status.{Status}
 use Rattle.poker_cli.specs.declared.status.Status.TheVariants as statuses
 use Rattle.convert_core.specs.declared.format.Format.{Format}
 use Rattle.convert_core.specs.declared.format.Format.TheVariants as readers
-use Rattle.command_words.specs.Command as commands
+use Rattle.command_words.specs.Command.{conversion}
 
 -- the request is a conversion: the input is read in the notation `from` and its hands are written
 -- in `to`, keeping these notes; each log is under the game in its game file
 abbrev pub AsksToConvert : Files → Request → (from to : Format) → Keep → Type 0
-AsksToConvert files request from to keep = IsAsked files request (commands.Convert from to keep)
+AsksToConvert files request from to keep = IsAsked files request (conversion from to keep)
 
 -- an input within the limit reads as hands; the replay of every hand is legal, every stated fact
 -- agrees, and these are the plays; every fact to be kept can be written in the target notation

@@ -19,14 +19,15 @@ use Rattle.command_words.specs.Command as commands
 use Rattle.command_words.specs.Command.{Command, input_of}
 use Rattle.command_words.specs.declared.command.EachQuestion.{EachQuestion}
 use Rattle.command_words.specs.declared.command.EachQuestion.TheVariants as of_each
+use Rattle.command_words.specs.declared.command.Question.TheVariants as questions
 use Rattle.replay_core.specs.LegalPart.{IsLegalBeginning}
 
 -- the command prints something about all hands
 abbrev pub PrintsAll : Command Format → Type 0
-PrintsAll (commands.Check from) = Unit {0}
-PrintsAll (commands.Replay from) = Unit {0}
-PrintsAll (commands.Report from) = Unit {0}
-PrintsAll (commands.Session from) = Unit {0}
+PrintsAll (commands.Hands from (commands.About questions.Check)) = Unit {0}
+PrintsAll (commands.Hands from (commands.About questions.Replay)) = Unit {0}
+PrintsAll (commands.Hands from (commands.About questions.Report)) = Unit {0}
+PrintsAll (commands.Hands from (commands.About questions.Session)) = Unit {0}
 PrintsAll command = ⊥
 
 -- The request asks for a command about an input that is within the limit: it reads as hands that

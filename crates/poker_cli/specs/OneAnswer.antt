@@ -16,5 +16,6 @@ pub record ReadAlike (answer other : Answer) : Type 0 where
 -- two answers count as one: they are the same, except for how TOML writes the document of hands in
 -- the Poker Hand History format
 abbrev pub AreOneAnswer : Command Format → Answer → Answer → Type 0
-AreOneAnswer (commands.Convert from readers.Phh keep) answer other = ReadAlike answer other
+AreOneAnswer (commands.Hands from (commands.Convert readers.Phh keep)) answer other =
+    ReadAlike answer other
 AreOneAnswer command answer other = answer ≡ other

@@ -1,10 +1,11 @@
 //! The answer to the bytes of an input: how they are read, and what is done with their hands.
 ghost use Rattle.std.specs.Prelude.{◌≡◌, ◌≤◌, Some, length, IfOk, string_bytes};
 ghost use Rattle.poker_cli.specs.AnswerParts as definition;
-ghost use Rattle.command_words.specs.Command.{command_in};
-ghost use Rattle.poker_cli.specs.Answer.{IsAnswer};
+ghost use Rattle.command_words.specs.Command.{Hands, about, ask_in, command_in};
+ghost use Rattle.poker_cli.specs.Answer.{IsAnswer, IsAnswerOf};
 ghost use Rattle.poker_cli.specs.AnswerParts.{most_input};
 ghost use Rattle.convert_core.specs.Faults.{excess_of};
+ghost use Rattle.convert_core.specs.Formats.{HaveFault, SayRecords, start_lines};
 ghost use Rattle.poker_cli.specs.FaultAnswers.{IsFaultAnswer, IsPlaysFaultAnswer, IsTextAnswer, answer_said};
 
 use crate::check::answer_with_check;
@@ -23,7 +24,7 @@ use crate::session::answer_with_session;
 use crate::status::Status;
 use crate::views::answer_with_messages;
 use card_set::{Memory, try_format};
-use command_words::Command;
+use command_words::{Ask, Command, Question};
 use convert_core::{ConvertFault, Format, FormatFault, PlaysFault, Refusal};
 use hand_canon::Unspelled;
 use std::alloc::Global;
@@ -53,25 +54,56 @@ pub fn answer_to(
         IsAnswer (command_in file.now command) bytes.now (answer_said answer)) }
 {
     match command {
-        Command::Check { from } => answer_with_check(alloc, &from, bytes),
-        Command::Replay { from } => answer_with_replay(alloc, &from, bytes),
-        Command::Report { from } => answer_with_report(alloc, &from, bytes),
-        Command::Session { from } => answer_with_session(alloc, &from, bytes),
-        Command::Game { from } => answer_with_game(alloc, &from, bytes),
-        Command::Options { from, hand, events } => {
-            answer_with_options(alloc, hand, events, &from, bytes)
-        }
-        Command::Equity { from, hand, street } => {
-            answer_with_equity(alloc, hand, street, &from, bytes)
-        }
-        Command::Judge { from, lines } => answer_with_verdicts(alloc, lines, &from, bytes),
-        Command::Views { from, seat } => answer_with_messages(alloc, seat, &from, bytes),
-        Command::Each { from, question } => answer_with_each(alloc, question, &from, bytes),
-        Command::Convert { from, to, keep } => answer_with_hands(alloc, &from, &to, keep, bytes),
-        Command::Compare { from, other, notes } => {
-            answer_with_comparison(alloc, &other, notes, file, &from, bytes)
-        }
         Command::Load { seed, hands } => answer_to_load(alloc, seed, hands),
+        Command::Hands { from, ask } => answer_about_hands(alloc, ask, file, &from, bytes),
+    }
+}
+
+// The answer to what is asked about the hands of an input.
+fn answer_about_hands(
+    alloc: Global,
+    ask: Ask<Format>,
+    file: &[u8],
+    from: &Format,
+    bytes: &[u8],
+) -> Result<Answer, Memory>
+    ensures { IfOk result (λ answer. IsAnswerOf (Hands from.now (ask_in file.now ask))
+        (SayRecords from.now bytes.now) (HaveFault from.now bytes.now)
+        (start_lines from.now bytes.now) (answer_said answer)) }
+{
+    match ask {
+        Ask::About(question) => answer_to_question(alloc, question, from, bytes),
+        Ask::Convert { to, keep } => answer_with_hands(alloc, from, &to, keep, bytes),
+        Ask::Compare { other, notes } => {
+            answer_with_comparison(alloc, &other, notes, file, from, bytes)
+        }
+    }
+}
+
+// The answer to a question about the hands of an input.
+fn answer_to_question(
+    alloc: Global,
+    question: Question,
+    from: &Format,
+    bytes: &[u8],
+) -> Result<Answer, Memory>
+    ensures { IfOk result (λ answer. IsAnswerOf (about question from.now)
+        (SayRecords from.now bytes.now) (HaveFault from.now bytes.now)
+        (start_lines from.now bytes.now) (answer_said answer)) }
+{
+    match question {
+        Question::Check => answer_with_check(alloc, from, bytes),
+        Question::Replay => answer_with_replay(alloc, from, bytes),
+        Question::Report => answer_with_report(alloc, from, bytes),
+        Question::Session => answer_with_session(alloc, from, bytes),
+        Question::Game => answer_with_game(alloc, from, bytes),
+        Question::Options { hand, events } => {
+            answer_with_options(alloc, hand, events, from, bytes)
+        }
+        Question::Equity { hand, street } => answer_with_equity(alloc, hand, street, from, bytes),
+        Question::Judge { lines } => answer_with_verdicts(alloc, lines, from, bytes),
+        Question::Views { seat } => answer_with_messages(alloc, seat, from, bytes),
+        Question::Each(question) => answer_with_each(alloc, question, from, bytes),
     }
 }
 

@@ -1,4 +1,5 @@
 use Rattle.command_words.specs.Command as commands
+use Rattle.command_words.specs.declared.command.Question.TheVariants as questions
 use Rattle.convert_core.specs.declared.format.Format.TheVariants as readers
 use Rattle.poker_cli.proofs.Comparisons.{legal_compares}
 use Rattle.poker_cli.proofs.LegalEach.{absent_each, legal_each}
@@ -12,7 +13,7 @@ returns c = record {
   ask = legal_asks;
   options = legal_options;
   equity = legal_equity;
-  views = λ request game seat. legal_asks request (commands.Views (readers.Acpc game) seat);
+  views = λ request game seat. legal_asks request (commands.about (questions.Views seat) (readers.Acpc game));
   seen = legal_seen;
   judge = all_judged;
   each = legal_each;
