@@ -3,7 +3,7 @@ ghost use Rattle.std.specs.Prelude.{◌≡◌, Some};
 ghost use Rattle.acpc_game.specs.FaultText as texts;
 ghost use Rattle.acpc_game.specs.Faults as faults;
 
-use card_set::Memory;
+use card_set::{Memory, PushTo, try_push_all};
 use first_fault::{Quantity, ReadError, saturating_u32};
 use std::fmt;
 
@@ -125,6 +125,15 @@ impl From<ReadError<AcpcFault>> for AcpcFault {
             ReadError::Memory(memory) => AcpcFault::Memory(memory),
             ReadError::Fault(fault) => fault,
         }
+    }
+}
+
+impl PushTo for AcpcFault {
+    ghost text_of = { texts.fault_text };
+
+    fn push_to(&self, text: &mut String) -> Result<(), Memory> {
+        let (line, byte) = self.location();
+        try_push_all!(text; "line ", line, ", byte ", byte, ": ", self.name())
     }
 }
 

@@ -6,7 +6,7 @@ ghost use Rattle.chip_ledger.specs.AmountTexts.{spaced};
 
 use crate::game::Game;
 use crate::supported::opener_of;
-use card_set::{Memory, TryExtend, displayed};
+use card_set::{Memory, TryExtend, text_from};
 use std::alloc::Global;
 
 /// The game file of a game.
@@ -151,7 +151,7 @@ fn push_numbers(alloc: Global, out: &mut Vec<u8>, numbers: &[u64]) -> Result<(),
     ensures { OnOk result (out.new.items ≡ out.old.items ++ spaced numbers.now) }
 {
     for number in numbers {
-        let digits = displayed(alloc, number)?;
+        let digits = text_from(alloc, number)?;
         out.try_extend_from_slice(b" ")?;
         out.try_extend_from_slice(digits.as_bytes())?;
     }

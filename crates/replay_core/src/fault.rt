@@ -3,7 +3,7 @@ ghost use Rattle.std.specs.Prelude.{◌≡◌, Some};
 ghost use Rattle.replay_core.specs.FaultText.{fault_text};
 ghost use Rattle.replay_core.specs.declared.fault.ReplayFault.TheVariants as faults;
 
-use card_set::Memory;
+use card_set::{Memory, PushTo, TryWrite, try_push_all};
 use play_event::Illegal;
 use std::fmt;
 
@@ -28,6 +28,24 @@ impl From<Memory> for ReplayFault {
 
     fn from(memory: Memory) -> Self {
         ReplayFault::Memory(memory)
+    }
+}
+
+impl PushTo for ReplayFault {
+    ghost text_of = { fault_text };
+
+    fn push_to(&self, text: &mut String) -> Result<(), Memory> {
+        match *self {
+            ReplayFault::Illegal { event, at, why } => {
+                try_push_all!(text; "event ", event, ", action ", at, ": ", why)
+            }
+            ReplayFault::EndsEarly { events } => {
+                try_push_all!(text; "ends early after ", events, " events")
+            }
+            ReplayFault::RakeTooBig { pot } => try_push_all!(text; "pot ", pot, ": rake too big"),
+            ReplayFault::NoShownHand { pot } => try_push_all!(text; "pot ", pot, ": no shown hand"),
+            ReplayFault::Memory(_) => text.try_push_str("out of memory"),
+        }
     }
 }
 
