@@ -2,7 +2,7 @@
 use crate::known_run::run_on;
 use crate::pieces::Pieces;
 use crate::row::{ROOM, Row, read_row};
-use card_set::{Memory, TryPush, TryWrite, try_format, try_write};
+use card_set::{MOST_BYTES, Memory, TryPush, TryWrite, try_format, try_write};
 use host_io::{MemShelf, MemSink, MemSource};
 use poker_cli::Status;
 use std::alloc::Global;
@@ -43,7 +43,7 @@ pub fn run(alloc: Global, row: Row) -> Result<RowAnswer, Memory> {
     let take = take.max(1);
     let mut source = MemSource::in_pieces(input, give.max(1), fails.read);
     let mut shelf = MemShelf::new(files, fails.fetch);
-    let mut out = MemSink::in_pieces(alloc, room, take, fails.write)?;
+    let mut out = MemSink::in_pieces(alloc, room.min(MOST_BYTES), take, fails.write)?;
     let mut diag = MemSink::new(alloc, ROOM, fails.line)?;
     let status = run_on(alloc, &words, &mut source, &mut shelf, &mut out, &mut diag);
     Ok(RowAnswer {

@@ -1,7 +1,6 @@
 //! A run over devices in memory, with all that is promised of it: their bytes, files and faults are
 //! known.
 ghost use Rattle.std.specs.Prelude.{◌≡◌, ◌↔◌, map, None, Some, IfSome, string_bytes};
-ghost use Rattle.card_set.specs.Refusal.{WasRefused};
 ghost use Rattle.command_words.specs.Words.{request_said};
 ghost use Rattle.host_io.specs.FaultPlan.{CountsOneCall};
 ghost use Rattle.host_io.specs.Faults.{Rose};
@@ -24,8 +23,6 @@ pub fn run_on(
     out: &mut MemSink,
     diag: &mut MemSink,
 ) -> Status
-    // The status is Memory only if a request for memory was refused.
-    ensures memory { result ≡ Status.Memory → WasRefused }
     // The status is Usage for other words, and only for them.
     ensures usage { (result ≡ Status.Usage) ↔ (request_said (map string_bytes words.now) ≡ None) }
     // The answer itself: the run gives the answer of the request to these files and bytes, and if

@@ -1,9 +1,8 @@
 //! Reads the words of a command line with a parser.
-ghost use Rattle.std.specs.Prelude.{◌≡◌, map, option_map, string_bytes, IfErr, IfOk, Ok, None, Some, is_some, true};
+ghost use Rattle.std.specs.Prelude.{◌≡◌, map, option_map, string_bytes, IfErr, IfOk, IfSome, IsSome, Ok, None, Some, is_some, true};
 ghost use Rattle.clap.specs.Simple.{new_rule};
-ghost use Rattle.clap.specs.Words.{app_of, found_of, kind_of};
+ghost use Rattle.clap.specs.Words.{app_of, found_of};
 ghost use Rattle.clap.specs.declared.builder.action.ArgAction.TheVariants.{SetTrue};
-ghost use Rattle.clap.specs.declared.error.kind.ErrorKind.TheVariants.{OutOfMemory};
 ghost use Rattle.command_words.specs.Requests.{AreFound, IsSaidBy, options_in, request_in};
 ghost use Rattle.command_words.specs.GivenOptions.{GivenOptions as OptionsSaid};
 ghost use Rattle.command_words.specs.Parser.{IsArgument, are_taken, handref};
@@ -12,9 +11,9 @@ ghost use Rattle.command_words.specs.Words.{request_said};
 use crate::given_options::{GivenOptions, read_options};
 use crate::request::Request;
 use crate::words::request_of;
-use card_set::Memory;
+use card_set::{Memory, TryArg, matches_of};
 use clap::{Arg, ArgAction, ArgMatches};
-use std::alloc::{AllocError, Global};
+use std::alloc::Global;
 
 /// What the words ask for, or `None` if they are no command. Out of memory is reported only for
 /// words that the parser takes: for these it fails for no other reason.
@@ -28,9 +27,8 @@ pub fn read_words<'a>(alloc: Global, words: &'a [String]) -> Result<Option<Reque
     if request_in_words(words).is_none() {
         return Ok(None);
     }
-    let matches = match parsed(alloc, words) {
-        Ok(matches) => matches,
-        Err(error) => return Err(refused_by_clap(&error)),
+    let Some(matches) = parsed(alloc, words)? else {
+        return Ok(None);
     };
     let Some(word) = matches.get_str("command") else {
         return Ok(None);
@@ -48,48 +46,39 @@ fn request_in_words(words: &[String]) -> Option<Request<'_>>
     request_of(word.as_str(), options)
 }
 
-// Turns an error of the parser that says out of memory into `Memory`.
-#[tactic(auto, using(card_set::specs::Refusal::an_allocator_said_so))]
-fn refused_by_clap(_error: &clap::Error) -> Memory
-    requires { kind_of _error.now ≡ OutOfMemory }
-{
-    Memory {}
-}
-
-// The parsed words of a command, by name. The parser takes them all, so it fails only if memory
-// runs out.
-fn parsed<'a>(alloc: Global, words: &'a [String]) -> Result<ArgMatches<'a>, clap::Error>
+// The parsed words of a command, by name. The parser takes them all.
+fn parsed<'a>(alloc: Global, words: &'a [String]) -> Result<Option<ArgMatches<'a>>, Memory>
     requires { is_some (request_said (map string_bytes words.now)) ≡ true }
-    ensures said { IfOk result (λ matches.
-        IsSaidBy (map string_bytes words.now) (found_of matches)) }
-    ensures memory { IfErr result (λ error. kind_of error ≡ OutOfMemory) }
+    ensures said { IfOk result (λ found. IfSome found (λ matches.
+        IsSaidBy (map string_bytes words.now) (found_of matches))) }
+    ensures taken { IfOk result (λ found. IsSome found) }
 {
-    parser(alloc)?.try_get_matches_from(words)
+    matches_of(parser(alloc)?, words)
 }
 
 // The parser.
-fn parser<'a>(alloc: Global) -> Result<clap::Command<'a>, AllocError>
+fn parser<'a>(alloc: Global) -> Result<clap::Command<'a>, Memory>
     ensures { IfOk result (λ parser. app_of parser ≡ handref) }
 {
     let command = Arg::new(alloc, "command");
     clap::Command::new(alloc, "handref")
         .no_binary_name(true)
-        .arg(command)?
-        .arg(option(alloc, "from"))?
-        .arg(option(alloc, "to"))?
-        .arg(option(alloc, "game"))?
-        .arg(option(alloc, "seed"))?
-        .arg(option(alloc, "hands"))?
-        .arg(option(alloc, "seat"))?
-        .arg(option(alloc, "hand"))?
-        .arg(option(alloc, "after"))?
-        .arg(option(alloc, "street"))?
-        .arg(option(alloc, "with"))?
-        .arg(option(alloc, "as"))?
-        .arg(flag(alloc, "drop-notes"))?
-        .arg(flag(alloc, "no-notes"))?
-        .arg(flag(alloc, "lines"))?
-        .arg(flag(alloc, "each"))
+        .try_arg(command)?
+        .try_arg(option(alloc, "from"))?
+        .try_arg(option(alloc, "to"))?
+        .try_arg(option(alloc, "game"))?
+        .try_arg(option(alloc, "seed"))?
+        .try_arg(option(alloc, "hands"))?
+        .try_arg(option(alloc, "seat"))?
+        .try_arg(option(alloc, "hand"))?
+        .try_arg(option(alloc, "after"))?
+        .try_arg(option(alloc, "street"))?
+        .try_arg(option(alloc, "with"))?
+        .try_arg(option(alloc, "as"))?
+        .try_arg(flag(alloc, "drop-notes"))?
+        .try_arg(flag(alloc, "no-notes"))?
+        .try_arg(flag(alloc, "lines"))?
+        .try_arg(flag(alloc, "each"))
 }
 
 // An option of this name.

@@ -1,6 +1,7 @@
 //! A sink in memory, which holds the bytes that it took in order, and fails at the listed calls and
 //! when it is full.
 ghost use Rattle.std.specs.Prelude.{◌≡◌, ◌⊎◌, ◌+◌, ◌-◌, ◌^◌, ◌<◌, ◌≤◌, ◌↔◌, ◌++◌, [], min, length, vec_len, vec_capacity, Some, IfOk, OnErr, IsErr, is_err};
+ghost use Rattle.card_set.specs.declared.room.TheConstants.{MOST_BYTES};
 ghost use Rattle.std.specs.Io.{WritesAtMost};
 ghost use Rattle.std.specs.Io.KnownBytes.{WriteAppends};
 ghost use Rattle.host_io.specs.Faults.{Rose};
@@ -9,7 +10,7 @@ ghost use Rattle.host_io.specs.FaultPlan.{FailsNext, CountsCall};
 use crate::fault::{Failed, count_fault};
 use crate::fault_plan::FaultPlan;
 use crate::sink::Sink;
-use card_set::{Memory, TryExtend};
+use card_set::{Memory, TryExtend, bytes_with_room};
 use std::alloc::Global;
 
 /// A sink in memory, with room for a fixed number of bytes. Each call takes as many as there is
@@ -39,6 +40,7 @@ impl MemSink {
     /// first call is number 0), and allocates all its memory here. A piece may have any number of
     /// bytes.
     pub fn new(alloc: Global, room: usize, fail_at: Vec<u64>) -> Result<MemSink, Memory>
+        requires { room ≤ MOST_BYTES }
         ensures { IfOk result (λ sink. IsEmptySink sink room (2 ^ 64 - 1) fail_at.items) }
     {
         MemSink::in_pieces(alloc, room, usize::MAX, fail_at)
@@ -51,11 +53,12 @@ impl MemSink {
         piece: usize,
         fail_at: Vec<u64>,
     ) -> Result<MemSink, Memory>
-        requires { 1 ≤ piece }
+        requires piece { 1 ≤ piece }
+        requires room { room ≤ MOST_BYTES }
         ensures { IfOk result (λ sink. IsEmptySink sink room piece fail_at.items) }
     {
         Ok(MemSink {
-            bytes: empty_with_room(alloc, room)?,
+            bytes: bytes_with_room(alloc, room)?,
             room,
             piece,
             plan: FaultPlan::new(fail_at),
@@ -106,14 +109,4 @@ fn push_reserved(held: &mut Vec<u8>, bytes: &[u8])
     ensures capacity { vec_capacity held.old ≤ vec_capacity held.new }
 {
     let _ = held.try_extend_from_slice(bytes);
-}
-
-// An empty list with room for this many bytes. The device is for tests, and no program uses it.
-#[tactic(auto, using(card_set::specs::Refusal::an_allocator_said_so))]
-fn empty_with_room(alloc: Global, room: usize) -> Result<Vec<u8>, Memory>
-    ensures empty { IfOk result (λ bytes. bytes.items ≡ []) }
-    ensures len { IfOk result (λ bytes. vec_len bytes ≡ 0) }
-    ensures room { IfOk result (λ bytes. room ≤ vec_capacity bytes) }
-{
-    Vec::with_capacity(alloc, room).map_err(|_| Memory {})
 }

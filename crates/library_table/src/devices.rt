@@ -1,6 +1,7 @@
 //! Makes each device as a case says, and asks it what the case asks.
 use crate::device_case::Case;
 use crate::std_devices::{Calls, Reader, Writer};
+use card_set::MOST_BYTES;
 use host_io::{
     Failed, Fetched, FileShelf, MemShelf, MemSink, MemSource, Shelf, ShelfFault, Source, StdSink,
     StdSource, read_all, write_all,
@@ -57,9 +58,10 @@ fn what_is_read(alloc: Global, source: &mut impl Source, max: usize) -> Result<S
 // The result of `write_all` with the text on a sink, and what the sink then holds.
 fn of_sink(alloc: Global, case: &Case<'_>) -> Result<String, AllocError> {
     let fail_at = case.fail_at(alloc)?;
+    let room = case.limit.min(MOST_BYTES);
     let made = match case.piece {
-        Some(piece) if piece > 0 => MemSink::in_pieces(alloc, case.limit, piece, fail_at),
-        _ => MemSink::new(alloc, case.limit, fail_at),
+        Some(piece) if piece > 0 => MemSink::in_pieces(alloc, room, piece, fail_at),
+        _ => MemSink::new(alloc, room, fail_at),
     };
     let Ok(mut sink) = made else {
         return Err(AllocError);

@@ -15,7 +15,7 @@ ghost use Rattle.ohh_writing.specs.Spelled as spelled;
 ghost use Rattle.ohh_writing.specs.Tree.{hand_members, hand_tree, limit_tree, list, numbers_written, players, pots, round_trees, table_size, text_or_empty, whole, with_date};
 
 use crate::games::{bet_type, game_type};
-use crate::members::{put_number, put_text, put_value, text_value};
+use crate::members::{put_number, put_text, text_value};
 use crate::moment::{find_moment, write_moment};
 use crate::players::player_values;
 use crate::posts::small_blind_seat;
@@ -25,7 +25,7 @@ use crate::seating::{find_seat_number, numbers_to_write};
 use crate::setup::{find_big_blind, find_greatest_ante};
 use crate::tidy_trace::TidyTrace;
 use crate::trees::round_values;
-use card_set::{Memory, text_from};
+use card_set::{Memory, put_json, text_from};
 use chip_ledger::Seat;
 use first_fault::Text;
 use hand_canon::{Notes, Play, Trace};
@@ -47,7 +47,7 @@ pub fn hand_value(
 {
     let ohh = make_members(alloc, dialect, index, play)?;
     let mut members = Map::new(alloc);
-    put_value(alloc, &mut members, "ohh", ohh)?;
+    put_json(alloc, &mut members, "ohh", ohh)?;
     Ok(Value::Object(members))
 }
 
@@ -80,7 +80,7 @@ fn put_setup(alloc: Global, ohh: &mut Map<String, Value>, setup: &Setup) -> Resu
 {
     let small_blind = setup.blinds.get(small_blind_seat(setup));
     put_text(alloc, ohh, "game_type", game_type(setup.code))?;
-    put_value(alloc, ohh, "bet_limit", limit_value(alloc, setup)?)?;
+    put_json(alloc, ohh, "bet_limit", limit_value(alloc, setup)?)?;
     put_number(alloc, ohh, "ante_amount", find_greatest_ante(setup))?;
     put_number(alloc, ohh, "big_blind_amount", find_big_blind(setup))?;
     put_number(alloc, ohh, "small_blind_amount", small_blind)?;
@@ -124,7 +124,7 @@ fn put_seating(
         find_seat_number(numbers, last) as u64,
     )?;
     let values = player_values(alloc, &setup.stacks, notes, numbers)?;
-    put_value(alloc, ohh, "players", values)?;
+    put_json(alloc, ohh, "players", values)?;
     put_number(alloc, ohh, "table_size", size as u64)?;
     Ok(())
 }
@@ -145,7 +145,7 @@ fn put_names(
         (members_view ohh.old.entries))))) }
 {
     put_text(alloc, ohh, "currency", text_of(&notes.currency))?;
-    put_value(
+    put_json(
         alloc,
         ohh,
         "game_number",
@@ -188,10 +188,10 @@ fn put_play(
         ≡ put (codes "rounds") (list (round_trees 1 (rounds.hand_rounds dialect trace.now)))
         (put (codes "pots") (pots trace.now) (members_view ohh.old.entries))) }
 {
-    put_value(alloc, ohh, "pots", pot_values(alloc, trace)?)?;
+    put_json(alloc, ohh, "pots", pot_values(alloc, trace)?)?;
     let rounds = make_rounds(alloc, dialect, &TidyTrace { trace })?;
     let rounds = Value::Array(round_values(alloc, rounds.as_slice())?);
-    put_value(alloc, ohh, "rounds", rounds)?;
+    put_json(alloc, ohh, "rounds", rounds)?;
     Ok(())
 }
 
@@ -213,7 +213,7 @@ fn put_date(alloc: Global, ohh: &mut Map<String, Value>, notes: &Notes) -> Resul
 {
     if let Some(moment) = find_moment(notes) {
         let text = write_moment(alloc, moment)?;
-        put_value(alloc, ohh, "start_date_utc", Value::String(text))?;
+        put_json(alloc, ohh, "start_date_utc", Value::String(text))?;
     }
     Ok(())
 }

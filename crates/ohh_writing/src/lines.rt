@@ -1,11 +1,6 @@
 //! Writes plays as their lines.
-ghost use Rattle.std.specs.Prelude.{false, ◌≡◌, ◌⊎◌, ◌≤◌, ◌<◌, ◌+◌, List, [], ◌∷◌, ◌++◌, None, Some, length, vec_capacity, vec_len, IfOk, IfErr, IsOk, OnErr, OnOk};
+ghost use Rattle.std.specs.Prelude.{◌≡◌, ◌⊎◌, ◌≤◌, ◌<◌, ◌+◌, List, [], ◌∷◌, ◌++◌, None, length, vec_capacity, vec_len, IfOk, IfErr, IsOk, OnErr, OnOk};
 ghost use Rattle.std.specs.List.{AllByRecursion};
-ghost use Rattle.std.specs.Str.{IsUtf8};
-ghost use Rattle.serde_json.specs.Data.{depth};
-ghost use Rattle.serde_json.specs.Read.{max_depth, read};
-ghost use Rattle.serde_json.specs.View.{view};
-ghost use Rattle.serde_json.specs.Written.{compact_text, has_float};
 ghost use Rattle.hand_canon.specs.Sound.{IsSound};
 ghost use Rattle.first_fault.specs.declared.limits.TheConstants.{MOST_HANDS};
 ghost use Rattle.hand_canon.specs.declared.trace.Play.{Play as AnyPlay};
@@ -14,12 +9,10 @@ ghost use Rattle.ohh_writing.specs.Spelled.{unspelled};
 ghost use Rattle.hand_canon.specs.WriteRefusals.{IsOutOfMemory, first_refusal};
 
 use crate::hand::hand_value;
-use crate::members::refused_to_tree;
 use crate::spelled::find_refusal;
-use card_set::{Memory, TryExtend, TryPush, reserve_for};
+use card_set::{Memory, TryExtend, TryPush, json_bytes, reserve_for};
 use hand_canon::{Keep, Play, SoundPlay, SoundPlays, WriteRefusal};
 use ohh_members::Dialect;
-use serde_json::Value;
 use std::alloc::Global;
 
 /// The lines of some plays, each the compact text of the tree of its hand, with an empty line
@@ -103,16 +96,5 @@ fn make_text(
     ensures read { IfOk result (λ text. IsTextOf dialect index play.now) }
 {
     let value = hand_value(alloc, dialect, index, play.play())?;
-    Ok(to_vec(alloc, &value)?)
-}
-
-// The compact text of a tree.
-fn to_vec(alloc: Global, value: &Value) -> Result<Vec<u8>, Memory>
-    ensures text { IfOk result (λ text. has_float (view value.now) ≡ false
-        → text.items ≡ compact_text (view value.now)) }
-    ensures utf8 { IfOk result (λ text. IsUtf8 text.items) }
-    ensures reads_back { IfOk result (λ text. depth (view value.now) ≤ max_depth
-        → read text.items ≡ Some (view value.now)) }
-{
-    value.to_vec(alloc).map_err(|_| refused_to_tree())
+    json_bytes(alloc, &value)
 }

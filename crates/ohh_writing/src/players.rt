@@ -5,9 +5,9 @@ ghost use Rattle.serde_json.specs.View.{view, members_view};
 ghost use Rattle.hand_canon.specs.AllowedNotes.{name_written};
 ghost use Rattle.ohh_writing.specs.Tree.{player_tree, players};
 
-use crate::members::{put_number, put_value};
+use crate::members::put_number;
 use crate::seating::find_seat_number;
-use card_set::{Memory, TryPush, string_from, try_text};
+use card_set::{Memory, TryPush, put_json, string_from, try_text};
 use chip_ledger::{Seat, SeatRow};
 use hand_canon::Notes;
 use serde_json::{Map, Value};
@@ -63,7 +63,7 @@ fn put_name(
         ≡ put (codes "name") (string (name_written notes.now seat.number))
         (members_view members.old.entries)) }
 {
-    put_value(
+    put_json(
         alloc,
         members,
         "name",

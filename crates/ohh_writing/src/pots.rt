@@ -4,8 +4,8 @@ ghost use Rattle.serde_json.specs.Data.{put};
 ghost use Rattle.serde_json.specs.View.{view, members_view};
 ghost use Rattle.ohh_writing.specs.Tree.{pot_tree, pots, win_object, win_tree, wins_of};
 
-use crate::members::{put_number, put_value};
-use card_set::{Memory, TryPush};
+use crate::members::put_number;
+use card_set::{Memory, TryPush, put_json};
 use chip_ledger::{PlayerCount, Pot, Seat, SeatRow};
 use hand_canon::Trace;
 use serde_json::{Map, Value};
@@ -48,7 +48,7 @@ fn put_wins(
         ≡ put (codes "player_wins") (wins_of share.now players.number)
         (members_view members.old.entries)) }
 {
-    put_value(
+    put_json(
         alloc,
         members,
         "player_wins",

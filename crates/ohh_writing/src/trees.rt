@@ -8,8 +8,8 @@ ghost use Rattle.ohh_writing.specs.Rounds.{round_said};
 ghost use Rattle.ohh_writing.specs.Tree.{action_tree, action_trees, cards_tree, list, round_tree, round_trees, whole, with_detail};
 
 use crate::action::{Action, Detail, Round};
-use crate::members::{put_number, put_text, put_value};
-use card_set::{Memory, Slot, TryPush, slot_text};
+use crate::members::{put_number, put_text};
+use card_set::{Memory, Slot, TryPush, put_json, slot_text};
 use ohh_members::street::name_of;
 use serde_json::{Map, Value};
 use std::alloc::Global;
@@ -38,7 +38,7 @@ fn round_value(alloc: Global, number: u64, round: &Round) -> Result<Value, Memor
 {
     let mut members = Map::new(alloc);
     let actions = action_values(alloc, number, round.actions.as_slice())?;
-    put_value(alloc, &mut members, "actions", actions)?;
+    put_json(alloc, &mut members, "actions", actions)?;
     put_cards(alloc, &mut members, round.cards.as_slice())?;
     put_text(alloc, &mut members, "street", name_of(round.street))?;
     Ok(Value::Object(members))
@@ -98,7 +98,7 @@ fn put_chips(
         (put (codes "amount") (whole amount) (members_view members.old.entries))) }
 {
     put_number(alloc, members, "amount", amount)?;
-    put_value(alloc, members, "is_allin", Value::from(all_in))?;
+    put_json(alloc, members, "is_allin", Value::from(all_in))?;
     Ok(())
 }
 
@@ -107,7 +107,7 @@ fn put_cards(alloc: Global, members: &mut Map<String, Value>, cards: &[Slot]) ->
     ensures { OnOk result (members_view members.new.entries
         ≡ put (codes "cards") (cards_tree cards.now) (members_view members.old.entries)) }
 {
-    put_value(alloc, members, "cards", card_values(alloc, cards)?)?;
+    put_json(alloc, members, "cards", card_values(alloc, cards)?)?;
     Ok(())
 }
 

@@ -13,10 +13,9 @@ use crate::notes::put_notes;
 use crate::played::put_trace;
 use crate::setup::put_setup;
 use crate::spelled::find_refusal;
-use card_set::{Memory, text_from};
+use card_set::{Memory, text_from, toml_text};
 use hand_canon::{Keep, Play, SoundPlay, SoundPlays, WriteRefusal};
 use std::alloc::Global;
-use toml::ser::Error;
 use toml::{Table, Value};
 
 /// The bytes of the document of some plays: one hand is its table, several are under the keys 1, 2
@@ -39,18 +38,8 @@ pub fn write(alloc: Global, plays: &[Play], keep: Keep) -> Result<Vec<u8>, Write
         return Ok(Vec::new(alloc));
     }
     let table = make_document(alloc, &plays)?;
-    match toml::table_to_string(alloc, &table) {
-        Ok(text) => Ok(text.into_bytes()),
-        Err(Error::DateInvalid) => unreachable!(),
-        Err(Error::OutOfMemory) => Err(WriteRefusal::Memory(refused_by_printer())),
-    }
-}
-
-// Out of memory, as reported by the printer of documents; that a request was refused is assumed
-// here.
-#[tactic(auto, using(card_set::specs::Refusal::an_allocator_said_so))]
-fn refused_by_printer() -> Memory {
-    Memory {}
+    let text = toml_text(alloc, &table)?;
+    Ok(text.into_bytes())
 }
 
 // The document of some plays. The tables of several hands are inserted from the last to the first.

@@ -5,7 +5,7 @@ use Rattle.std.specs.declared.string.String.{String}
 use Rattle.std.proofs.Math.ListN.{replicate}
 use Rattle.std.proofs.lemmas.List.{length-replicate}
 use Rattle.std.proofs.lemmas.Option.{same_Some}
-use Rattle.card_set.specs.Refusal.{WasRefused}
+use Rattle.card_set.specs.declared.memory.Memory.{Memory}
 use Rattle.command_words.specs.Command as commands
 use Rattle.command_words.specs.Command.{Command, has_input, input_of}
 use Rattle.command_words.specs.Words.{Request}
@@ -168,7 +168,7 @@ pub ends_with : (request : Request) (files : Files) (bytes : List ℕ) (out diag
     → Ends request files bytes out diag status
 ends_with request files bytes out diag answer statuses.Usage is own ends written line = subst IsOwn ends own
 ends_with request files bytes out diag answer statuses.ReadFault is own ends written line = absurd (subst IsOwn ends own)
-ends_with request files bytes out diag answer statuses.Memory is own ends written line = absurd (subst IsOwn ends own)
+ends_with request files bytes out diag answer (statuses.Memory memory) is own ends written line = absurd (subst IsOwn ends own)
 ends_with request files bytes out diag answer statuses.ShelfFault is own ends written line = absurd (subst IsOwn ends own)
 ends_with request files bytes out diag answer statuses.Done is own ends written line =
     record { answer = answer; to_input = is; ends = ends; written = written; line = line }
@@ -280,10 +280,10 @@ module _ (request : Request) (left : Option (List ℕ)) (shown : Option FilesByN
       always_told request left shown (λ files bytes. EndsLeaving request files bytes out diag statuses.ShelfFault Same)
       (λ files bytes. record { ends = asks; unwritten = tt })
 
-  pub ends_memory : WasRefused → WhereShown request left shown (λ files bytes. EndsLeaving request files bytes out diag statuses.Memory Same)
-  ends_memory refused =
-      always_told request left shown (λ files bytes. EndsLeaving request files bytes out diag statuses.Memory Same)
-      (λ files bytes. record { ends = refused; unwritten = tt })
+  pub ends_memory : (memory : Memory) → WhereShown request left shown (λ files bytes. EndsLeaving request files bytes out diag (statuses.Memory memory) Same)
+  ends_memory memory =
+      always_told request left shown (λ files bytes. EndsLeaving request files bytes out diag (statuses.Memory memory) Same)
+      (λ files bytes. record { ends = tt; unwritten = tt })
 
 -- What is known of the status of an answer if nothing is written.
 pub record IsTold (answer : Answer) (status : Status) (held : Option (List ℕ)) : Type 0 where
@@ -314,7 +314,7 @@ told_alone answer statuses.Done held same own undone = absurd (undone refl)
 told_alone answer statuses.Usage held same own undone = absurd own
 told_alone answer statuses.ReadFault held same own undone = absurd own
 told_alone answer statuses.WriteFault held same own undone = absurd own
-told_alone answer statuses.Memory held same own undone = absurd own
+told_alone answer (statuses.Memory memory) held same own undone = absurd own
 told_alone answer statuses.ShelfFault held same own undone = absurd own
 told_alone answer statuses.GameMissing held same own undone = absurd own
 told_alone answer statuses.FileMissing held same own undone = absurd own
@@ -326,10 +326,10 @@ no_game file (lacks.Bad fault) answer is shown =
     subst (λ (a : Answer). GivesNoGame file a) (sym shown) (game_files.BadGame is.0 is.1.0 is.1.1.0 fault is.1.1.1)
 
 -- running out of memory says nothing about files and bytes, and leaves the input as it was
-pub ends_unread : (said : Option Request) (left : Option (List ℕ)) (shown : Option FilesByName) (out diag : Sinks) (Same : Type 0) → WasRefused
-    → IfSome said (λ request. WhereShown request left shown (λ files bytes. EndsLeaving request files bytes out diag statuses.Memory Same))
-ends_unread None left shown out diag Same refused = tt
-ends_unread (Some request) left shown out diag Same refused = ends_memory request left shown out diag Same refused
+pub ends_unread : (said : Option Request) (left : Option (List ℕ)) (shown : Option FilesByName) (out diag : Sinks) (Same : Type 0) (memory : Memory)
+    → IfSome said (λ request. WhereShown request left shown (λ files bytes. EndsLeaving request files bytes out diag (statuses.Memory memory) Same))
+ends_unread None left shown out diag Same memory = tt
+ends_unread (Some request) left shown out diag Same memory = ends_memory request left shown out diag Same memory
 
 pub kept_unread : {X : Type 0} (said : Option Request) (asks : Request → Type 0) (input : X) → IfSome said (λ request. asks request → input ≡ input)
 kept_unread None asks input = tt

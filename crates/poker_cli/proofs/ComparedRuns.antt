@@ -272,7 +272,7 @@ module _ (request : Request) (from with_notation : Format) (notes : Bool) (files
   fault_or_not other statuses.WriteFault ends is = absurd (never_done other ends.answer ends.to_input ends.ends.0)
   fault_or_not other statuses.ReadFault ends is = tt
   fault_or_not other statuses.ShelfFault ends is = tt
-  fault_or_not other statuses.Memory ends is = is
+  fault_or_not other (statuses.Memory memory) ends is = is
   fault_or_not other status ends is = absurd is
 
   pub other_differs : (AreSame notes plays others → ⊥) → Ends request files bytes out diag status → FindsOther status

@@ -203,7 +203,7 @@ module _ (request : Request) (files : Files) (from to : Format) (keep : Keep) (b
       limit_so from to keep bytes out diag ends.answer (as_asked request files bytes (commands.Hands from (commands.Convert to keep)) ends.answer found ends.to_input) ends.ends
       (record { unwritten = left.unwritten tt; shown = ends.line })
   conversion_ends statuses.ReadFault found ends left = record { unwritten = left.unwritten tt; shown = left.fixed }
-  conversion_ends statuses.Memory found ends left = (ends, record { unwritten = left.unwritten tt; shown = left.fixed })
+  conversion_ends (statuses.Memory memory) found ends left = record { unwritten = left.unwritten tt; shown = left.fixed }
   conversion_ends statuses.ShelfFault found ends left =
       (asks_for_logs files request from to keep found ends, record { unwritten = left.unwritten tt; shown = left.fixed })
   conversion_ends statuses.Usage found ends left = ends
@@ -224,7 +224,7 @@ module _ (request : Request) (files : Files) (from to : Format) (keep : Keep) (b
   conversion_reads statuses.Refused ends few records say = tt
   conversion_reads statuses.Unspelled ends few records say = tt
   conversion_reads statuses.ReadFault ends few records say = tt
-  conversion_reads statuses.Memory ends few records say = ends.0
+  conversion_reads (statuses.Memory memory) ends few records say = tt
   conversion_reads statuses.ShelfFault ends few records say = tt
   conversion_reads statuses.Usage ends few records say = ends
   conversion_reads statuses.GameMissing ends few records say = ends

@@ -108,7 +108,7 @@ ends_as request files bytes out diag statuses.Done Is so there named ends = inl 
 ends_as request files bytes out diag statuses.ReadFault Is so there named ends = inl tt
 ends_as request files bytes out diag statuses.WriteFault Is so there named ends = inl tt
 ends_as request files bytes out diag statuses.ShelfFault Is so there named ends = inl tt
-ends_as request files bytes out diag statuses.Memory Is so there named ends = inl ends
+ends_as request files bytes out diag (statuses.Memory memory) Is so there named ends = inl ends
 ends_as request files bytes out diag statuses.Usage Is so there named ends = absurd ends
 ends_as request files bytes out diag statuses.GameMissing Is so there named ends = absurd (there ends)
 ends_as request files bytes out diag statuses.FileMissing Is so there named ends = absurd (named ends)
@@ -148,7 +148,7 @@ ends_absent : (request : Request) (files : Files) (bytes : List ℕ) (out diag :
     → Ends request files bytes out diag status → FindsNone status
 ends_absent request files bytes out diag statuses.ReadFault so there named ends = tt
 ends_absent request files bytes out diag statuses.ShelfFault so there named ends = tt
-ends_absent request files bytes out diag statuses.Memory so there named ends = ends
+ends_absent request files bytes out diag (statuses.Memory memory) so there named ends = ends
 ends_absent request files bytes out diag statuses.Usage so there named ends = ends
 ends_absent request files bytes out diag statuses.GameMissing so there named ends = there ends
 ends_absent request files bytes out diag statuses.FileMissing so there named ends = named ends

@@ -504,7 +504,7 @@ ends_so request files bytes out diag statuses.Done own each there named ends = i
 ends_so request files bytes out diag statuses.ReadFault own each there named ends = inl tt
 ends_so request files bytes out diag statuses.WriteFault own each there named ends = inl tt
 ends_so request files bytes out diag statuses.ShelfFault own each there named ends = inl tt
-ends_so request files bytes out diag statuses.Memory own each there named ends = inl ends
+ends_so request files bytes out diag (statuses.Memory memory) own each there named ends = inl ends
 ends_so request files bytes out diag statuses.Usage own each there named ends = absurd ends
 ends_so request files bytes out diag statuses.GameMissing own each there named ends = absurd (there ends)
 ends_so request files bytes out diag statuses.FileMissing own each there named ends = absurd (named ends)
@@ -585,7 +585,7 @@ pub legal_load : (seed hands : ℕ) (files : Files) (bytes : List ℕ) (out diag
     → Ends (Plain (commands.Load seed hands)) files bytes out diag status → NeedsNoInput status
 legal_load seed hands files bytes out diag statuses.Done ends = tt
 legal_load seed hands files bytes out diag statuses.WriteFault ends = tt
-legal_load seed hands files bytes out diag statuses.Memory ends = ends
+legal_load seed hands files bytes out diag (statuses.Memory memory) ends = ends
 legal_load seed hands files bytes out diag statuses.Usage ends = ends
 legal_load seed hands files bytes out diag statuses.ReadFault ends = let reads = ends.0 in cc (reads)
 legal_load seed hands files bytes out diag statuses.ShelfFault ends = cc (ends)

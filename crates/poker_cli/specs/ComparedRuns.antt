@@ -3,7 +3,6 @@
 -- they read so and are not.
 use Rattle.std.specs.Prelude.{◌≡◌, ◌≢◌, ℕ, ◌-◌, ◌≤◌, Bool, true, false, List, length, take, Some}
 use Rattle.std.specs.Io.KnownBytes.{Appends}
-use Rattle.card_set.specs.Refusal.{WasRefused}
 use Rattle.convert_core.specs.Conversion.{ReadAsPlays}
 use Rattle.hand_differences.specs.FirstDifference.{reported_difference}
 use Rattle.hand_canon.specs.SameHands.{AllPaired, AreSameHand}
@@ -86,5 +85,5 @@ abbrev pub FindsOther : Status → Type 0
 FindsOther statuses.Differs = Unit {0}
 FindsOther statuses.ReadFault = Unit {0}
 FindsOther statuses.ShelfFault = Unit {0}
-FindsOther statuses.Memory = WasRefused
+FindsOther (statuses.Memory memory) = Unit {0}
 FindsOther status = ⊥

@@ -5,7 +5,6 @@
 -- refused hand is named, with its first illegal action.
 use Rattle.std.specs.Prelude.{◌≡◌, ◌⊎◌, ℕ, ◌<◌, ◌≤◌, List, length, codes, None, Some}
 use Rattle.std.specs.Io.KnownBytes.{Appends}
-use Rattle.card_set.specs.Refusal.{WasRefused}
 use Rattle.command_words.specs.Words.{Request}
 use Rattle.convert_core.specs.Conversion.{HasUnspelled, ReadAsPlays, ReadAsRefused}
 use Rattle.convert_core.specs.declared.refusal.Refusal.{Refusal}
@@ -135,8 +134,8 @@ ConversionEnds from to keep bytes out diag statuses.WriteFault =
     IsCutShort from to keep bytes out diag
 ConversionEnds from to keep bytes out diag statuses.ReadFault =
     PrintsAlone out diag (codes "read fault\n")
-ConversionEnds from to keep bytes out diag statuses.Memory =
-    WasRefused × PrintsAlone out diag (codes "out of memory\n")
+ConversionEnds from to keep bytes out diag (statuses.Memory memory) =
+    PrintsAlone out diag (codes "out of memory\n")
 ConversionEnds from to keep bytes out diag statuses.ShelfFault =
     (IsOfLogs from ⊎ IsOfLogs to) × PrintsAlone out diag (codes "shelf fault\n")
 ConversionEnds from to keep bytes out diag statuses.Usage = ⊥

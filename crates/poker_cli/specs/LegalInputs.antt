@@ -1,7 +1,6 @@
 -- A request about hands that are all legal and agree with what is stated of them, and one about
 -- hands that answer each by itself.
 use Rattle.std.specs.Prelude.{◌≡◌, ℕ, ◌≤◌, List, length, Some, IfSome}
-use Rattle.card_set.specs.Refusal.{WasRefused}
 use Rattle.command_words.specs.Words.{Request}
 use Rattle.convert_core.specs.Conversion.{ReadAsPlays}
 use Rattle.hand_canon.specs.SoundRecord.{script_said}
@@ -69,5 +68,5 @@ abbrev pub FindsNone : Status → Type 0
 FindsNone statuses.NoSuch = Unit {0}
 FindsNone statuses.ReadFault = Unit {0}
 FindsNone statuses.ShelfFault = Unit {0}
-FindsNone statuses.Memory = WasRefused
+FindsNone (statuses.Memory memory) = Unit {0}
 FindsNone status = ⊥

@@ -2,7 +2,6 @@
 use Rattle.std.specs.Prelude.{◌≡◌, ◌≢◌, ◌⊎◌, ℕ, ◌<◌, Bool, true, false, List, [], length, codes, Option, Some, None, IfSome, option_and_then, unwrap_or}
 use Rattle.std.specs.Io.KnownBytes.{Appends}
 use Rattle.acpc_game.specs.declared.game.Game.{Game}
-use Rattle.card_set.specs.Refusal.{WasRefused}
 use Rattle.command_words.specs.Command.{Command, file_of, has_input, has_other_file, is_about_logs}
 use Rattle.command_words.specs.Words.{Plain, Request, Under}
 use Rattle.host_io.specs.Faults.{Rose}
@@ -14,6 +13,7 @@ use Rattle.poker_cli.specs.Answer.{IsAnswerIn}
 use Rattle.poker_cli.specs.AnswerParts.{Answer, most_input}
 use Rattle.poker_cli.specs.Files.{Files, FilesByName}
 use Rattle.poker_cli.specs.GameFiles.{GivesGame, GivesNoGame}
+use Rattle.poker_cli.specs.Status.{IsMemory}
 
 -- the line if the words are no command
 abbrev pub usage_line : List ℕ
@@ -30,7 +30,7 @@ MayEnd answer status = answer.status ≡ status
 abbrev pub fixed_line : Status → Option (List ℕ)
 fixed_line statuses.Usage = Some usage_line
 fixed_line statuses.ReadFault = Some (codes "read fault\n")
-fixed_line statuses.Memory = Some (codes "out of memory\n")
+fixed_line (statuses.Memory memory) = Some (codes "out of memory\n")
 fixed_line statuses.WriteFault = Some (codes "write fault\n")
 fixed_line statuses.ShelfFault = Some (codes "shelf fault\n")
 fixed_line statuses.GameMissing = Some (codes "game missing\n")
@@ -156,7 +156,7 @@ abbrev pub AsksInTurn : {H : Type 0} → (Asked : H → H → List ℕ → Type 
     → Option Request → Status → (shelf seen : H) → Type 0
 AsksInTurn Asked shown None status shelf seen = seen ≡ shelf
 AsksInTurn Asked shown (Some request) status shelf seen =
-    Asks Asked shown request shelf seen ⊎ ((status ≡ statuses.Memory) × (seen ≡ shelf))
+    Asks Asked shown request shelf seen ⊎ (IsMemory status × (seen ≡ shelf))
 
 -- a file that is named is not there
 abbrev pub IsMissing : (name file : Option (List ℕ)) → Type 0
@@ -244,7 +244,7 @@ abbrev pub Ends : Request → Files → List ℕ → Sinks → Sinks → Status 
 Ends request files bytes out diag statuses.Usage = ⊥
 Ends request files bytes out diag statuses.ReadFault =
     ReadsHands request × (IsWithoutFile request files → ⊥)
-Ends request files bytes out diag statuses.Memory = WasRefused
+Ends request files bytes out diag (statuses.Memory memory) = Unit {0}
 Ends request files bytes out diag statuses.ShelfFault = AsksForFile request
 Ends request files bytes out diag statuses.GameMissing = IsGameMissing request files
 Ends request files bytes out diag statuses.FileMissing = IsFileMissing request files
@@ -298,7 +298,7 @@ RefusesNothing statuses.Done = Unit {0}
 RefusesNothing statuses.ReadFault = Unit {0}
 RefusesNothing statuses.WriteFault = Unit {0}
 RefusesNothing statuses.ShelfFault = Unit {0}
-RefusesNothing statuses.Memory = WasRefused
+RefusesNothing (statuses.Memory memory) = Unit {0}
 RefusesNothing _ = ⊥
 
 -- a status of a run that reads nothing and refuses nothing: all is done, or the output could not be
@@ -306,7 +306,7 @@ RefusesNothing _ = ⊥
 abbrev pub NeedsNoInput : Status → Type 0
 NeedsNoInput statuses.Done = Unit {0}
 NeedsNoInput statuses.WriteFault = Unit {0}
-NeedsNoInput statuses.Memory = WasRefused
+NeedsNoInput (statuses.Memory memory) = Unit {0}
 NeedsNoInput _ = ⊥
 
 -- a status that comes before the input is read

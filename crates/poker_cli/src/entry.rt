@@ -1,7 +1,6 @@
 //! The entry point: from the words of the command line and the input to the status, the output and
 //! the diagnostic line.
 ghost use Rattle.std.specs.Prelude.{◌≡◌, ◌↔◌, [], map, true, false, None, Some, IfErr, IfOk, IfSome, IsErrOf, string_bytes};
-ghost use Rattle.card_set.specs.Refusal.{WasRefused};
 ghost use Rattle.command_words.specs.Command.{command_in, file_of, has_input, has_other_file};
 ghost use Rattle.command_words.specs.Requests.{log_command_in, request_in};
 ghost use Rattle.command_words.specs.Words.{request_said};
@@ -11,6 +10,7 @@ ghost use Rattle.poker_cli.specs.Headline.{EndsOver};
 ghost use Rattle.poker_cli.specs.Replied.{ComesFirst, HasNoAnswer, HasNoReply, Keeps};
 ghost use Rattle.poker_cli.specs.Run.{Asks, AsksInOrder, AsksInTurn, EndsLeaving, IsNotThere, IsOwn, Lacks, LacksFile, Leaves, MakesHands, MayEnd, OfBytes, OfFile, PrintsLine, Reports, WhereNeeded, WhereShown, Writes, WritesNothing, change_of, line_of, needs};
 ghost use Rattle.poker_cli.specs.FaultAnswers.{answer_said};
+ghost use Rattle.poker_cli.specs.Status.{IsMemory};
 
 use crate::answer::{self, Answer, MOST_INPUT};
 use crate::game_files::{NoGameError, fetch_game, game_file_answer};
@@ -39,9 +39,6 @@ pub fn run<S: Source, H: Shelf, K: Sink, D: Sink>(
     out: &mut K,
     diag: &mut D,
 ) -> Status
-    // The status is Memory only if a request for memory was refused.
-    ensures memory { result ≡ Status.Memory → WasRefused }
-
     // If the words are no request, the status is Usage and never Memory.
     ensures usage { (result ≡ Status.Usage) ↔ (request_said (map string_bytes words.now) ≡ None) }
 
@@ -81,7 +78,7 @@ pub fn run<S: Source, H: Shelf, K: Sink, D: Sink>(
         }
         Err(memory) => {
             print_line(diag, b"out of memory\n");
-            Status::Memory
+            Status::Memory(memory)
         }
     }
 }
@@ -95,7 +92,6 @@ fn run_request<S: Source, H: Shelf, K: Sink, D: Sink>(
     out: &mut K,
     diag: &mut D,
 ) -> Status
-    ensures memory { result ≡ Status.Memory → WasRefused }
     ensures answered { result ≡ Status.Usage → ⊥ }
     ensures ends { WhereShown (request_in request.entry) (S.left input.old) (H.files shelf.old)
         (λ files bytes.
@@ -132,7 +128,7 @@ fn run_request<S: Source, H: Shelf, K: Sink, D: Sink>(
         }
         Err(NoAnswerError::Memory(memory)) => {
             print_line(diag, b"out of memory\n");
-            Status::Memory
+            Status::Memory(memory)
         }
     }
 }
@@ -296,7 +292,7 @@ fn reply_with<S: Source>(
 fn deliver<K: Sink, D: Sink>(answer: &Answer, out: &mut K, diag: &mut D) -> Status
     requires { IsOwn answer.now.status }
     ensures read { result ≡ Status.ReadFault → ⊥ }
-    ensures memory { result ≡ Status.Memory → ⊥ }
+    ensures memory { IsMemory result → ⊥ }
     ensures status { MayEnd (answer_said answer.now) result }
     ensures write_fault { result ≡ Status.WriteFault → Rose (K.faults out.old) (K.faults out.new) }
     ensures written { Writes (K.held out.old) (K.held out.new) (answer_said answer.now) result }

@@ -36,5 +36,5 @@ pub use laws::{
     law_of_comparisons, law_of_equal_answers, law_of_equal_runs, law_of_legal_inputs, law_of_lines,
     law_of_one_answer, law_of_read_hands, law_of_runs_again, law_of_runs_by_way,
 };
-pub use process::{end_with, run_process};
+pub use process::{run_process, run_with};
 pub use status::Status;

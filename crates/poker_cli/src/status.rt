@@ -2,6 +2,8 @@
 ghost use Rattle.std.specs.Prelude.{◌≡◌};
 ghost use Rattle.poker_cli.specs.Status.{status_number};
 
+use card_set::Memory;
+
 /// How the program ended. Its numbers are the exit statuses of the process.
 #[derive(Clone, Copy, Debug, PartialEq, Eq)]
 pub enum Status {
@@ -22,7 +24,7 @@ pub enum Status {
     /// The input, the game file or the file to compare with is too long, or exceeds another limit.
     Limit,
     /// There was not enough memory.
-    Memory,
+    Memory(Memory),
     /// The game file is not there.
     GameMissing,
     /// The game file has no game that is supported.
@@ -51,7 +53,7 @@ impl Status {
             Status::ReadFault => 5,
             Status::WriteFault => 6,
             Status::Limit => 7,
-            Status::Memory => 8,
+            Status::Memory(_) => 8,
             Status::GameMissing => 9,
             Status::BadGame => 10,
             Status::ShelfFault => 11,

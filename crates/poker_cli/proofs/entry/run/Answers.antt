@@ -14,7 +14,7 @@ returns-in-Err-clause-ends g c =
     let said = request_said (map string_bytes c.args.words.now) in
     let left = g.S.Source.left c.args.input.now in
     let shown = g.H.Shelf.files c.args.shelf.now in
-    ends_told said left shown _ _ statuses.Memory _ (ends_unread said left shown _ _ _ c.in-Err.memory.refused)
+    ends_told said left shown _ _ (statuses.Memory c.in-Err.memory) _ (ends_unread said left shown _ _ _ c.in-Err.memory)
     (record { unwritten = λ nothing. refl; failed = λ is. cc; quiet = λ is. cc; fixed = c.print_line-in-Err.ensures })
 
 pub returns-in-Err-clause-without_file : goal.returns-in-Err-clause-without_file

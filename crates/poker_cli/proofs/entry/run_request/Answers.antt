@@ -33,7 +33,7 @@ returns-in-Err-ShelfFault-clause-tells g c =
 
 pub returns-in-Err-Memory-clause-ends : goal.returns-in-Err-Memory-clause-ends
 returns-in-Err-Memory-clause-ends g c =
-    ends_memory (request_in c.args.request) (g.S.Source.left c.args.input.now) (g.H.Shelf.files c.args.shelf.now) _ _ _ c.in-Err-Memory.memory.refused
+    ends_memory (request_in c.args.request) (g.S.Source.left c.args.input.now) (g.H.Shelf.files c.args.shelf.now) _ _ _ c.in-Err-Memory.memory
 
 pub returns-in-Err-ReadFault-clause-ends : goal.returns-in-Err-ReadFault-clause-ends
 returns-in-Err-ReadFault-clause-ends g c =
