@@ -9,7 +9,7 @@ ghost use Rattle.chip_ledger.specs.SeatsSaid.{default_name};
 use crate::letters::fault_at;
 use crate::parts::next_part;
 use acpc_game::{LineFault, LineFaultKind, count_parts};
-use card_set::displayed;
+use card_set::text_from;
 use chip_ledger::{PlayerCount, Seat};
 use first_fault::{MOST_TEXT_BYTES, Quantity, ReadError, Text, is_all_digits, read_digits};
 use std::alloc::Global;
@@ -38,7 +38,7 @@ pub fn read_hand(
             if number == place as u64 {
                 return Ok(None);
             }
-            let digits = displayed(alloc, number)?;
+            let digits = text_from(alloc, number)?;
             let note = Text::new(alloc, digits.as_str())?;
             Ok(Some(note))
         }

@@ -8,7 +8,7 @@ pub returns-in_ok-note-in-Some-clause-allowed : goal.returns-in_ok-note-in-Some-
 returns-in_ok-note-in-Some-clause-allowed c =
     let number = c.in-Some.number in
     let written : c.in_ok-note-in-Some.note ≡ decimal number =
-    c.in_ok-note-in-Some.ensures ∙ c.as_str.ensures.value ∙ c.in_ok-digits-in-Some.ensures.ok in
+    c.in_ok-note-in-Some.ensures ∙ c.as_str.ensures.value ∙ c.in_ok-digits-in-Some.ensures in
     let many = decimal_nonempty number (omega arith) in
     let few = length-decimal-le 20 number (omega arith) (omega arith) (omega arith) in
     let counted = ap length written in
