@@ -5,7 +5,7 @@ ghost use Rattle.hand_equity.specs.Text.{equity_said, low_lines, seat_line, seat
 
 use crate::gathered::live_before;
 use crate::row::EquityRow;
-use card_set::{Memory, TryWrite, try_write};
+use card_set::{Memory, try_push_all};
 use chip_ledger::{LiveRow, Seat};
 use hand_canon::Play;
 use std::alloc::Global;
@@ -41,11 +41,8 @@ fn push_total(text: &mut String, hand: u32, street: u8, row: &EquityRow) -> Resu
 {
     let total = row.total;
     let shared = row.shared;
-    try_write!(
-        text,
-        "hand {hand} street {street} total {total} shared {shared}\n"
-    )?;
-    Ok(())
+    try_push_all!(text;
+        "hand ", hand, " street ", street, " total ", total, " shared ", shared, "\n")
 }
 
 // Appends the lines of low hands, in a game that pays them.
@@ -56,9 +53,7 @@ fn push_low(text: &mut String, split: bool, live: &LiveRow, row: &EquityRow) -> 
     if !split {
         return Ok(());
     }
-    let none = row.low_none;
-    let shared = row.low_shared;
-    try_write!(text, "low none {none} shared {shared}\n")?;
+    try_push_all!(text; "low none ", row.low_none, " shared ", row.low_shared, "\n")?;
     push_seats(text, " low wins ", live, &row.low_wins, &row.low_ties)
 }
 
@@ -98,7 +93,7 @@ fn push_seat(
         let number = seat.number;
         let won = wins[number as usize - 1];
         let tied = ties[number as usize - 1];
-        try_write!(text, "p{number}{label}{won} ties {tied}\n")?;
+        try_push_all!(text; "p", number, label, won, " ties ", tied, "\n")?;
     }
     Ok(())
 }
