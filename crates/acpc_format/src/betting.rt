@@ -9,7 +9,7 @@ ghost use Rattle.acpc_format.specs.Puts.{HaveFewChips};
 
 use crate::cards::is_board_dealt;
 use crate::puts::{add, posted_chips};
-use card_set::{Memory, TryExtend, displayed};
+use card_set::{Memory, TryExtend, text_from};
 use play_event::{Act, Move, Place, Setup};
 use std::alloc::Global;
 
@@ -131,6 +131,6 @@ fn push_raise(alloc: Global, out: &mut Vec<u8>, no_limit: bool, total: u64) -> R
     if !no_limit {
         return Ok(());
     }
-    let digits = displayed(alloc, total)?;
+    let digits = text_from(alloc, total)?;
     Ok(out.try_extend_from_slice(digits.as_bytes())?)
 }

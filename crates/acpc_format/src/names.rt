@@ -6,7 +6,7 @@ ghost use Rattle.acpc_format.specs.Texts.{AreTexts};
 ghost use Rattle.chip_ledger.specs.SeatsSaid.{default_name};
 
 use crate::cards::push_bar;
-use card_set::{Memory, TryExtend, displayed};
+use card_set::{Memory, TryExtend, text_from};
 use chip_ledger::{PlayerCount, Seat};
 use first_fault::{Text, is_all_digits};
 use hand_canon::Notes;
@@ -57,7 +57,7 @@ fn push_name(
 fn push_default(alloc: Global, out: &mut Vec<u8>, seat: Seat) -> Result<(), Memory>
     ensures { OnOk result (out.new.items ≡ out.old.items ++ default_name seat.number) }
 {
-    let digits = displayed(alloc, seat.number)?;
+    let digits = text_from(alloc, seat.number)?;
     out.try_extend_from_slice(b"p")?;
     Ok(out.try_extend_from_slice(digits.as_bytes())?)
 }
@@ -115,7 +115,7 @@ pub fn push_hand(
 fn push_index(alloc: Global, out: &mut Vec<u8>, index: usize) -> Result<(), Memory>
     ensures { OnOk result (out.new.items ≡ out.old.items ++ hand_text index None) }
 {
-    let digits = displayed(alloc, index)?;
+    let digits = text_from(alloc, index)?;
     Ok(out.try_extend_from_slice(digits.as_bytes())?)
 }
 

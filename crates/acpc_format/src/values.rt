@@ -3,7 +3,7 @@ ghost use Rattle.std.specs.Prelude.{◌≡◌, ◌≤◌, ◌++◌, OnOk};
 ghost use Rattle.acpc_format.specs.Values.{value_text, values_text};
 
 use crate::cards::push_bar;
-use card_set::{Memory, TryExtend, displayed};
+use card_set::{Memory, TryExtend, text_from};
 use chip_ledger::{Seat, SeatRow};
 use std::alloc::Global;
 
@@ -42,10 +42,10 @@ fn push_value(
     let before = stacks.get(seat);
     let after = finish.get(seat);
     if after < before {
-        let digits = displayed(alloc, before - after)?;
+        let digits = text_from(alloc, before - after)?;
         out.try_extend_from_slice(b"-")?;
         return Ok(out.try_extend_from_slice(digits.as_bytes())?);
     }
-    let digits = displayed(alloc, after - before)?;
+    let digits = text_from(alloc, after - before)?;
     Ok(out.try_extend_from_slice(digits.as_bytes())?)
 }

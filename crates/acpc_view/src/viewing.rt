@@ -6,7 +6,7 @@ ghost use Rattle.acpc_view.specs.View.{head_text, seen_text, view_line, views_te
 use crate::seeing::find_seen_places;
 use acpc_format::{push_betting, push_cards, push_hand};
 use acpc_game::Game;
-use card_set::{Memory, TryExtend, displayed};
+use card_set::{Memory, TryExtend, text_from};
 use chip_ledger::Seat;
 use first_fault::Text;
 use hand_canon::{SoundPlay, Trace};
@@ -88,7 +88,7 @@ fn push_head(
     ensures { OnOk result (out.new.items
         ≡ out.old.items ++ head_text viewer.number place hand.now) }
 {
-    let digits = displayed(alloc, viewer.number - 1)?;
+    let digits = text_from(alloc, viewer.number - 1)?;
     out.try_extend_from_slice(b"MATCHSTATE:")?;
     out.try_extend_from_slice(digits.as_bytes())?;
     out.try_extend_from_slice(b":")?;

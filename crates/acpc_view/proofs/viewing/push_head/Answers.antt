@@ -22,6 +22,6 @@ returns c =
     (five_pieces c.args.out.now.items c.try_extend_from_slice.new.self.items c.try_extend_from_slice-2.new.self.items c.try_extend_from_slice-3.new.self.items c.push_hand.new.out.items
     (codes "MATCHSTATE:") (decimal (c.args.viewer.number - 1)) (hand_text c.args.place c.args.hand.now)
     c.in_ok-try_extend_from_slice.ensures.items
-    (c.in_ok-try_extend_from_slice-2.ensures.items ∙ ap (λ (t : List ℕ). c.try_extend_from_slice.new.self.items ++ t) (c.as_bytes.ensures.value ∙ c.in_ok-digits.ensures.ok))
+    (c.in_ok-try_extend_from_slice-2.ensures.items ∙ ap (λ (t : List ℕ). c.try_extend_from_slice.new.self.items ++ t) (c.as_bytes.ensures.value ∙ c.in_ok-digits.ensures))
     c.in_ok-try_extend_from_slice-3.ensures.items)
     c.push_hand.ensures
