@@ -5,7 +5,7 @@ ghost use Rattle.convert_core.specs.Faults.{excess_of, is_out_of_memory};
 ghost use Rattle.convert_core.specs.declared.format_fault.FormatFault.TheVariants as formats;
 
 use acpc_format::AcpcFault;
-use card_set::Memory;
+use card_set::{Memory, PushTo};
 use first_fault::Quantity;
 use ohh_format::OhhFault;
 use ohh_members::fault::MemberFaultKind;
@@ -39,14 +39,18 @@ impl FormatFault {
         ensures { result ≡ excess_of self.now }
     {
         match self {
-            FormatFault::Phh(PhhFault::InHand {
-                what: FieldFaultKind::TooMany { quantity },
-                ..
-            }) => Some(*quantity),
-            FormatFault::Ohh(OhhFault::InHand {
-                what: MemberFaultKind::TooMany { quantity },
-                ..
-            }) => Some(*quantity),
+            FormatFault::Phh(
+                PhhFault::InHand {
+                    what: FieldFaultKind::TooMany { quantity },
+                    ..
+                },
+            ) => Some(*quantity),
+            FormatFault::Ohh(
+                OhhFault::InHand {
+                    what: MemberFaultKind::TooMany { quantity },
+                    ..
+                },
+            ) => Some(*quantity),
             FormatFault::Acpc(AcpcFault::TooMany { quantity, .. }) => Some(*quantity),
             _ => None,
         }
@@ -74,6 +78,18 @@ impl From<AcpcFault> for FormatFault {
 
     fn from(found: AcpcFault) -> Self {
         FormatFault::Acpc(found)
+    }
+}
+
+impl PushTo for FormatFault {
+    ghost text_of = { format_text };
+
+    fn push_to(&self, text: &mut String) -> Result<(), Memory> {
+        match self {
+            FormatFault::Phh(fault) => fault.push_to(text),
+            FormatFault::Ohh(fault) => fault.push_to(text),
+            FormatFault::Acpc(fault) => fault.push_to(text),
+        }
     }
 }
 

@@ -3,7 +3,7 @@ ghost use Rattle.std.specs.Prelude.{◌≡◌, Some};
 ghost use Rattle.convert_core.specs.FaultText.{refusal_text};
 ghost use Rattle.convert_core.specs.declared.refusal.PlaysFault.TheVariants.{Memory as OfMemory};
 
-use card_set::Memory;
+use card_set::{Memory, PushTo};
 use hand_canon::FactDiffers;
 use replay_core::ReplayFault;
 use std::fmt;
@@ -16,6 +16,17 @@ pub enum Refusal {
     Replay(ReplayFault),
     /// Its script can be replayed, and this is the first stated fact that differs from its trace.
     Fact(FactDiffers),
+}
+
+impl PushTo for Refusal {
+    ghost text_of = { refusal_text };
+
+    fn push_to(&self, text: &mut String) -> Result<(), Memory> {
+        match self {
+            Refusal::Replay(fault) => fault.push_to(text),
+            Refusal::Fact(differs) => differs.push_to(text),
+        }
+    }
 }
 
 impl fmt::Display for Refusal {
