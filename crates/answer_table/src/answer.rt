@@ -2,7 +2,7 @@
 use crate::known_run::run_on;
 use crate::pieces::Pieces;
 use crate::row::{ROOM, Row, read_row};
-use card_set::{MOST_BYTES, Memory, TryPush, TryWrite, try_format, try_write};
+use card_set::{MOST_BYTES, Memory, TryPush, TryWrite, try_push_all, try_text};
 use host_io::{MemShelf, MemSink, MemSource};
 use poker_cli::Status;
 use std::alloc::Global;
@@ -57,8 +57,7 @@ pub fn run(alloc: Global, row: Row) -> Result<RowAnswer, Memory> {
 impl RowAnswer {
     /// The answer in words, with these bytes for its output.
     pub fn text(&self, alloc: Global, output: &[u8]) -> Result<String, Memory> {
-        let status = self.status.number();
-        let mut text = try_format!(in alloc; "status {status}")?;
+        let mut text = try_text!(in alloc; "status ", self.status.number())?;
         push_named(&mut text, "output", output)?;
         push_named(&mut text, "line", self.diag.held())?;
         Ok(text)
@@ -68,7 +67,7 @@ impl RowAnswer {
 /// Appends bytes after their name, if there are any.
 pub fn push_named(text: &mut String, name: &str, bytes: &[u8]) -> Result<(), Memory> {
     if !bytes.is_empty() {
-        try_write!(text, ", {name} ")?;
+        try_push_all!(text; ", ", name, " ")?;
         for byte in bytes {
             push_visible(text, *byte)?;
         }

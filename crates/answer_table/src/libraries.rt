@@ -6,7 +6,7 @@ ghost use Rattle.first_fault.specs.declared.limits.TheConstants.{MOST_HANDS};
 use crate::answer::push_named;
 use crate::parts::play_hands;
 use crate::pieces::{Pieces, parted};
-use card_set::{Memory, TryWrite, string_from, try_format, try_write};
+use card_set::{Memory, string_from, try_push_all, try_text};
 use hand_canon::{Play, SoundPlays};
 use hand_equity::{NoEquity, equity_of, equity_text};
 use hand_session::{Session, session, session_text};
@@ -48,10 +48,10 @@ fn session_answer(alloc: Global, plays: &SoundPlays<'_>) -> Result<String, Memor
 // Appends the number of steps of a session, and the hand and the name of each.
 fn push_steps(answer: &mut String, session: &Session) -> Result<(), Memory> {
     let steps = &session.steps;
-    try_write!(answer, "{} steps", steps.len())?;
+    try_push_all!(answer; steps.len(), " steps")?;
     for index in 0..steps.len() {
         let step = steps.get(index);
-        try_write!(answer, ", {} {}", step.hand, step.name.as_str())?;
+        try_push_all!(answer; ", ", step.hand, " ", step.name.as_str())?;
     }
     Ok(())
 }
@@ -59,10 +59,10 @@ fn push_steps(answer: &mut String, session: &Session) -> Result<(), Memory> {
 // Appends the number of rows of a session, and the name and the last stack of each.
 fn push_sessions(answer: &mut String, session: &Session) -> Result<(), Memory> {
     let rows = &session.rows;
-    try_write!(answer, ", {} rows", rows.len())?;
+    try_push_all!(answer; ", ", rows.len(), " rows")?;
     for index in 0..rows.len() {
         let row = rows.get(index);
-        try_write!(answer, ", {} {}", row.name.as_str(), row.last)?;
+        try_push_all!(answer; ", ", row.name.as_str(), " ", row.last)?;
     }
     Ok(())
 }
@@ -92,7 +92,7 @@ fn equity_answer(alloc: Global, plays: &SoundPlays<'_>, street: u8) -> Result<St
         }
         Err(NoEquity::NoStreet) => string_from(alloc, "no street"),
         Err(NoEquity::UnknownCards(seat)) => {
-            Ok(try_format!(in alloc; "unknown cards of p{}", seat.number)?)
+            try_text!(in alloc; "unknown cards of p", seat.number)
         }
     }
 }

@@ -4,7 +4,7 @@ ghost use Rattle.first_fault.specs.declared.limits.TheConstants.{MOST_HANDS};
 ghost use Rattle.hand_canon.specs.Sound.{IsSound};
 
 use crate::pieces::parted;
-use card_set::{Memory, TryPush, string_from, try_format};
+use card_set::{Memory, TryPush, string_from, try_text};
 use convert_core::{PlaysFault, SoundRecords, plays_of};
 use hand_canon::{Keep, Play, WriteRefusal};
 use hand_gen::make;
@@ -33,8 +33,8 @@ impl NotMade {
     /// The hand at fault, in words.
     pub fn text(&self, alloc: Global) -> Result<String, Memory> {
         match self {
-            NotMade::Refused { hand } => try_format!(in alloc; "refused: hand {hand}"),
-            NotMade::Unspelled { hand } => try_format!(in alloc; "unspelled: hand {hand}"),
+            NotMade::Refused { hand } => try_text!(in alloc; "refused: hand ", *hand),
+            NotMade::Unspelled { hand } => try_text!(in alloc; "unspelled: hand ", *hand),
             NotMade::Memory(memory) => Err(*memory),
         }
     }
@@ -55,8 +55,8 @@ pub fn answer_to(alloc: Global, numbers: &str) -> Result<String, Memory> {
         Err(why) => return why.text(alloc),
     };
     let (status, last) = check(alloc, bytes)?;
-    let status = status.number();
-    try_format!(in alloc; "status {status}, {last}, moves {moves}")
+    let last = last.as_str();
+    try_text!(in alloc; "status ", status.number(), ", ", last, ", moves ", moves)
 }
 
 /// The file of `count` made hands in the Poker Hand History format, and their number of moves.

@@ -1,7 +1,7 @@
 //! Named pieces of text, and text that is put together from them.
 ghost use Rattle.std.specs.Prelude.{◌<◌};
 
-use card_set::{Memory, TryExtend, TryPush, string_from, try_format};
+use card_set::{Memory, TryExtend, TryPush, string_from, text_from};
 use std::alloc::Global;
 
 /// Pieces of text by name.
@@ -52,7 +52,7 @@ impl Pieces {
     ) -> Result<(), Memory> {
         let (numbered, last) = parted(reference, "#");
         for number in 0..last.parse::<u32>().unwrap_or(0) {
-            let number = try_format!(in alloc; "{}", number + 1)?;
+            let number = text_from(alloc, number + 1)?;
             bytes.try_extend_from_slice(number.as_bytes())?;
             bytes.try_extend_from_slice(self.piece(numbered))?;
         }

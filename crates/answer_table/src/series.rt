@@ -1,7 +1,7 @@
 //! Answers a row with a series for each of its numbers, and prints equal answers once.
 use crate::answer::{RowAnswer, answer_to, run_row};
 use crate::pieces::{Pieces, parted};
-use card_set::{Memory, TryWrite, try_format, try_write};
+use card_set::{Memory, TryWrite, try_push_all, try_text};
 use poker_cli::Status;
 use std::alloc::Global;
 
@@ -78,7 +78,7 @@ impl Series<'_> {
     // Runs the row of a number.
     fn run(&self, alloc: Global, pieces: &Pieces, number: u32) -> Result<RowAnswer, Memory> {
         let Series { before, behind, .. } = self;
-        let row = try_format!(in alloc; "{before}{number}{behind}")?;
+        let row = try_text!(in alloc; *before, number, *behind)?;
         run_row(alloc, pieces, &row)
     }
 }
@@ -86,9 +86,9 @@ impl Series<'_> {
 // Appends an answer after the numbers that have it.
 fn push_answer(text: &mut String, first: u32, last: u32, answer: &str) -> Result<(), Memory> {
     if first < last {
-        try_write!(text, "{first}-{last} {answer}")?;
+        try_push_all!(text; first, "-", last, " ", answer)?;
     } else {
-        try_write!(text, "{first} {answer}")?;
+        try_push_all!(text; first, " ", answer)?;
     }
     Ok(())
 }

@@ -2,7 +2,7 @@
 use crate::answer::{RowAnswer, run};
 use crate::pieces::{Pieces, parted};
 use crate::row::read_row;
-use card_set::{Memory, TryWrite, try_format, try_write, vec_from};
+use card_set::{Memory, try_push_all, try_text, vec_from};
 use std::alloc::Global;
 
 /// The answer to a row FROM BY TO GAME: the result of the direct conversion of the input, and then
@@ -20,9 +20,9 @@ pub fn answer_to(alloc: Global, pieces: &Pieces, row: &str) -> Result<String, Me
     let mut text = straight.text(alloc, straight.out.held())?;
     let other = second.text(alloc, second.out.held())?;
     if other == text {
-        try_write!(text, "\n    the same by {by}")?;
+        try_push_all!(&mut text; "\n    the same by ", by)?;
     } else {
-        try_write!(text, "\n    by {by} {other}")?;
+        try_push_all!(&mut text; "\n    by ", by, " ", other.as_str())?;
     }
     Ok(text)
 }
@@ -36,9 +36,9 @@ fn convert(
     to: &str,
     input: &[u8],
 ) -> Result<RowAnswer, Memory> {
-    let mut words = try_format!(in alloc; "convert --from {from} --to {to} @room=4000")?;
+    let mut words = try_text!(in alloc; "convert --from ", from, " --to ", to, " @room=4000")?;
     if from == "acpc" || to == "acpc" {
-        try_write!(words, " --game g @file=g:{game}")?;
+        try_push_all!(&mut words; " --game g @file=g:", game)?;
     }
     let mut row = read_row(alloc, pieces, &words)?;
     row.input = vec_from(alloc, input)?;

@@ -23,7 +23,7 @@ use crate::report::answer_with_report;
 use crate::session::answer_with_session;
 use crate::status::Status;
 use crate::views::answer_with_messages;
-use card_set::{Memory, try_format};
+use card_set::{Memory, try_text};
 use command_words::{Ask, Command, Question};
 use convert_core::{ConvertFault, Format, FormatFault, PlaysFault, Refusal};
 use hand_canon::Unspelled;
@@ -160,7 +160,7 @@ fn answer_to_wrong(alloc: Global, fault: &FormatFault) -> Result<Answer, Memory>
             Ok(answer_with_line(alloc, Status::Limit, line))
         }
         None => {
-            let line = try_format!(in alloc; "bad input: {fault}\n")?;
+            let line = try_text!(in alloc; "bad input: ", fault, "\n")?;
             Ok(answer_with_line(alloc, Status::BadInput, line))
         }
     }
@@ -170,7 +170,7 @@ fn answer_to_wrong(alloc: Global, fault: &FormatFault) -> Result<Answer, Memory>
 pub fn answer_to_refused(alloc: Global, hand: u32, why: &Refusal) -> Result<Answer, Memory>
     ensures { IfOk result (λ answer. answer_said answer ≡ definition.to_refusal hand why.now) }
 {
-    let line = try_format!(in alloc; "refused: hand {hand}: {why}\n")?;
+    let line = try_text!(in alloc; "refused: hand ", hand, ": ", why, "\n")?;
     Ok(answer_with_line(alloc, Status::Refused, line))
 }
 
@@ -178,7 +178,7 @@ pub fn answer_to_refused(alloc: Global, hand: u32, why: &Refusal) -> Result<Answ
 pub fn answer_to_unspelled(alloc: Global, hand: u32, fact: Unspelled) -> Result<Answer, Memory>
     ensures { IfOk result (λ answer. answer_said answer ≡ definition.to_unspelled hand fact) }
 {
-    let line = try_format!(in alloc; "unspelled: hand {hand}: {fact}\n")?;
+    let line = try_text!(in alloc; "unspelled: hand ", hand, ": ", fact, "\n")?;
     Ok(answer_with_line(alloc, Status::Unspelled, line))
 }
 
@@ -186,7 +186,7 @@ pub fn answer_to_unspelled(alloc: Global, hand: u32, fact: Unspelled) -> Result<
 pub fn answer_no_hand(alloc: Global, hand: u32, hands: usize) -> Result<Answer, Memory>
     ensures { IfOk result (λ answer. answer_said answer ≡ definition.no_hand hand hands) }
 {
-    let line = try_format!(in alloc; "no such hand: {hand} of {hands}\n")?;
+    let line = try_text!(in alloc; "no such hand: ", hand, " of ", hands, "\n")?;
     Ok(answer_with_line(alloc, Status::NoSuch, line))
 }
 

@@ -8,7 +8,7 @@ ghost use Rattle.poker_cli.specs.FaultAnswers.{answer_said};
 
 use crate::answer::{Answer, answer_to_fault, answer_with_line, done_with_text};
 use crate::status::Status;
-use card_set::{Memory, try_format};
+use card_set::{Memory, try_text};
 use convert_core::{Format, plays as plays_in};
 use hand_canon::SoundPlays;
 use hand_differences::{Difference, first_difference, write_difference};
@@ -73,8 +73,7 @@ fn report_in_file(alloc: Global, answer: Answer) -> Result<Answer, Memory>
         output,
         line,
     } = answer;
-    let line = line.as_str();
-    let line = try_format!(in alloc; "file: {line}")?;
+    let line = try_text!(in alloc; "file: ", line.as_str())?;
     Ok(Answer {
         status,
         output,
@@ -125,7 +124,7 @@ fn find_first_different(
 fn answer_to_same(alloc: Global, hands: usize) -> Result<Answer, Memory>
     ensures { IfOk result (λ answer. answer_said answer ≡ to_same hands) }
 {
-    let text = try_format!(in alloc; "same hands: {hands}\n")?;
+    let text = try_text!(in alloc; "same hands: ", hands, "\n")?;
     Ok(done_with_text(alloc, text))
 }
 
@@ -134,10 +133,9 @@ fn answer_to_different(alloc: Global, differs: HandDifference) -> Result<Answer,
     ensures { IfOk result (λ answer.
         answer_said answer ≡ to_different (hand_difference_said differs)) }
 {
-    let number = differs.number;
     let text = write_difference(alloc, differs.difference)?;
     let text = text.as_str();
-    let line = try_format!(in alloc; "differs: hand {number}: {text}\n")?;
+    let line = try_text!(in alloc; "differs: hand ", differs.number, ": ", text, "\n")?;
     Ok(answer_with_line(alloc, Status::Differs, line))
 }
 
@@ -145,6 +143,6 @@ fn answer_to_different(alloc: Global, differs: HandDifference) -> Result<Answer,
 fn answer_to_other_count(alloc: Global, hands: usize, others: usize) -> Result<Answer, Memory>
     ensures { IfOk result (λ answer. answer_said answer ≡ to_other_count hands others) }
 {
-    let line = try_format!(in alloc; "differs: hands {hands} and {others}\n")?;
+    let line = try_text!(in alloc; "differs: hands ", hands, " and ", others, "\n")?;
     Ok(answer_with_line(alloc, Status::Differs, line))
 }

@@ -8,7 +8,7 @@ ghost use Rattle.poker_cli.specs.FaultAnswers.{answer_said};
 
 use crate::answer::{Answer, answer_no_hand, answer_to_fault, answer_with_line, done_with_bytes};
 use crate::status::Status;
-use card_set::{Memory, try_format};
+use card_set::{Memory, try_text};
 use convert_core::{Format, plays};
 use hand_canon::SoundPlays;
 use hand_equity::{NoEquity, equity_of, equity_text};
@@ -60,7 +60,7 @@ fn equity_in_plays(
 fn answer_no_street(alloc: Global, hand: u32, street: u8) -> Result<Answer, Memory>
     ensures { IfOk result (λ answer. answer_said answer ≡ in_equity.no_street hand street) }
 {
-    let line = try_format!(in alloc; "no such street: hand {hand}: {street}\n")?;
+    let line = try_text!(in alloc; "no such street: hand ", hand, ": ", street, "\n")?;
     Ok(answer_with_line(alloc, Status::NoSuch, line))
 }
 
@@ -68,6 +68,6 @@ fn answer_no_street(alloc: Global, hand: u32, street: u8) -> Result<Answer, Memo
 fn answer_no_cards(alloc: Global, hand: u32, seat: u8) -> Result<Answer, Memory>
     ensures { IfOk result (λ answer. answer_said answer ≡ in_equity.no_cards hand seat) }
 {
-    let line = try_format!(in alloc; "no such cards: hand {hand}: p{seat}\n")?;
+    let line = try_text!(in alloc; "no such cards: hand ", hand, ": p", seat, "\n")?;
     Ok(answer_with_line(alloc, Status::NoSuch, line))
 }

@@ -12,7 +12,7 @@ use crate::answer::{Answer, MOST_INPUT, answer_with_line};
 use crate::limits::write_excess_line;
 use crate::status::Status;
 use acpc_game::{AcpcFault, Game, read_game};
-use card_set::{Memory, try_format};
+use card_set::{Memory, try_text};
 use host_io::{Fetched, Shelf, ShelfFault};
 use std::alloc::Global;
 
@@ -107,6 +107,5 @@ fn write_bad_game_line(alloc: Global, fault: &AcpcFault) -> Result<String, Memor
     ensures { IfOk result (λ line. string_bytes line ≡ bad_game_line fault.now) }
 {
     let (line, _) = fault.location();
-    let name = fault.name();
-    try_format!(in alloc; "bad game: line {line}: {name}\n")
+    try_text!(in alloc; "bad game: line ", line, ": ", fault.name(), "\n")
 }

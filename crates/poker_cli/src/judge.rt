@@ -8,7 +8,7 @@ ghost use Rattle.convert_core.specs.Formats.{HaveFault, SayRecords, start_lines}
 ghost use Rattle.poker_cli.specs.FaultAnswers.{answer_said};
 
 use crate::answer::{Answer, answer_to_fault, done_with_text};
-use card_set::{Memory, TryWrite, try_write};
+use card_set::{Memory, try_push_all};
 use convert_core::{
     Format, HandIndex, JudgedPlay, Notation, PlaysFault, Refusal, SoundRecords, VerdictVisitor,
     judge_all, read_records,
@@ -94,11 +94,9 @@ fn push_legal(text: &mut String, number: usize, line: Option<u64>) -> Result<(),
         ++ (codes "hand " ++ (decimal number ++ (begins_text line ++ codes ": legal\n")))) }
 {
     let Some(line) = line else {
-        try_write!(text, "hand {number}: legal\n")?;
-        return Ok(());
+        return try_push_all!(text; "hand ", number, ": legal\n");
     };
-    try_write!(text, "hand {number}, line {line}: legal\n")?;
-    Ok(())
+    try_push_all!(text; "hand ", number, ", line ", line, ": legal\n")
 }
 
 /// Appends the line of a refused hand.
@@ -113,11 +111,9 @@ pub fn push_refused(
         ++ (refusal_text why.now ++ codes "\n")))))) }
 {
     let Some(line) = line else {
-        try_write!(text, "hand {number}: {why}\n")?;
-        return Ok(());
+        return try_push_all!(text; "hand ", number, ": ", why, "\n");
     };
-    try_write!(text, "hand {number}, line {line}: {why}\n")?;
-    Ok(())
+    try_push_all!(text; "hand ", number, ", line ", line, ": ", why, "\n")
 }
 
 // Appends the last line.
@@ -125,8 +121,7 @@ fn push_end(text: &mut String, legal: usize, hands: usize) -> Result<(), Memory>
     ensures { OnOk result (string_bytes text.new
         ≡ string_bytes text.old ++ verdicts_end legal hands) }
 {
-    try_write!(text, "legal hands: {legal} of {hands}\n")?;
-    Ok(())
+    try_push_all!(text; "legal hands: ", legal, " of ", hands, "\n")
 }
 
 /// The answer with the verdict on each hand in the bytes, and the line on which it begins if lines

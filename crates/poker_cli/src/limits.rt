@@ -2,7 +2,7 @@
 ghost use Rattle.std.specs.Prelude.{◌≡◌, IfOk, string_bytes};
 ghost use Rattle.poker_cli.specs.Limits as limits;
 
-use card_set::{Memory, try_format};
+use card_set::{Memory, try_text};
 use first_fault::{MOST_FILE_MOVES, MOST_HANDS, MOST_TEXT_BYTES, Quantity};
 use play_event::{MOST_MOVES, MOST_OTHER_EVENTS};
 use std::alloc::Global;
@@ -11,15 +11,14 @@ use std::alloc::Global;
 pub fn write_limit_line(alloc: Global, quantity: Quantity) -> Result<String, Memory>
     ensures { IfOk result (λ line. string_bytes line ≡ limits.limit_line quantity) }
 {
-    let most = find_limit(quantity);
-    try_format!(in alloc; "limit: {quantity} {most}\n")
+    try_text!(in alloc; "limit: ", quantity, " ", find_limit(quantity), "\n")
 }
 
 /// The line of a limit: what is counted, and the most of it that may be there.
 pub fn write_excess_line(alloc: Global, what: &str, most: usize) -> Result<String, Memory>
     ensures { IfOk result (λ line. string_bytes line ≡ limits.excess_line what.now most) }
 {
-    try_format!(in alloc; "limit: {what} {most}\n")
+    try_text!(in alloc; "limit: ", what, " ", most, "\n")
 }
 
 // The most of a quantity that a file may have.

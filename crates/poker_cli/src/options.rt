@@ -8,7 +8,7 @@ ghost use Rattle.poker_cli.specs.FaultAnswers.{answer_said};
 
 use crate::answer::{Answer, answer_no_hand, answer_to_fault, answer_with_line, done_with_bytes};
 use crate::status::Status;
-use card_set::{Memory, try_format};
+use card_set::{Memory, try_text};
 use convert_core::{Format, plays};
 use hand_canon::SoundPlays;
 use hand_options::{options, options_text};
@@ -59,6 +59,6 @@ fn options_in_plays(
 pub fn answer_no_event(alloc: Global, hand: u32, events: u32, all: usize) -> Result<Answer, Memory>
     ensures { IfOk result (λ answer. answer_said answer ≡ in_options.no_event hand events all) }
 {
-    let line = try_format!(in alloc; "no such event: hand {hand}: {events} of {all}\n")?;
+    let line = try_text!(in alloc; "no such event: hand ", hand, ": ", events, " of ", all, "\n")?;
     Ok(answer_with_line(alloc, Status::NoSuch, line))
 }

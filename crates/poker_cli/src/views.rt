@@ -17,7 +17,7 @@ use crate::limits::write_excess_line;
 use crate::status::Status;
 use acpc_game::Game;
 use acpc_view::{views, views_len};
-use card_set::{Memory, TryExtend, try_format};
+use card_set::{Memory, TryExtend, try_text};
 use chip_ledger::Seat;
 use convert_core::{Format, HandIndex, JudgedPlay, PlaysFault, SoundRecords, plays, read_records};
 use hand_canon::{Play, SoundPlay};
@@ -203,7 +203,6 @@ fn push_views(
 fn answer_no_seat(alloc: Global, seat: Seat, seats: u8) -> Result<Answer, Memory>
     ensures { IfOk result (λ answer. answer_said answer ≡ no_seat seat.number seats) }
 {
-    let seat = seat.number;
-    let line = try_format!(in alloc; "no such seat: {seat} of {seats}\n")?;
+    let line = try_text!(in alloc; "no such seat: ", seat.number, " of ", seats, "\n")?;
     Ok(answer_with_line(alloc, Status::NoSuch, line))
 }
