@@ -4,7 +4,7 @@ ghost use Rattle.chip_ledger.specs.SeatsSaid.{seat_said};
 ghost use Rattle.hand_options.specs.Printed.{HasTargets, bring_in_line, call_line, due_text, fold_line, options_said, raise_lines, range_line, seat_text, target_line};
 
 use crate::choices::{Options, RaiseSet};
-use card_set::{Memory, TryWrite, try_format, try_write};
+use card_set::{Memory, TryWrite, try_push_all, try_text};
 use chip_ledger::Seat;
 use play_event::Due;
 use std::alloc::Global;
@@ -57,7 +57,7 @@ fn text_of(alloc: Global, hand: u32, events: u32, options: &Options) -> Result<S
     requires listed { HasTargets options.now.raise }
     ensures { IfOk result (λ text. string_bytes text ≡ options_said hand events options.now) }
 {
-    let mut text = try_format!(in alloc; "hand {hand} after {events}: ")?;
+    let mut text = try_text!(in alloc; "hand ", hand, " after ", events, ": ")?;
     push_due(&mut text, options.due, options.seat)?;
     text.try_push_str("\n")?;
     push_fold(&mut text, options.fold)?;
@@ -77,8 +77,8 @@ fn push_due(text: &mut String, due: Due, seat: Option<Seat>) -> Result<(), Memor
         Due::BringIn => push_turn(text, "bring-in ", seat),
         Due::Deal(street) => push_street(text, "deal", street),
         Due::Draw(street) => push_street(text, "draw", street),
-        Due::Show => Ok(text.try_push_str("show")?),
-        Due::Over => Ok(text.try_push_str("over")?),
+        Due::Show => text.try_push_str("show"),
+        Due::Over => text.try_push_str("over"),
     }
 }
 
@@ -88,12 +88,9 @@ fn push_turn(text: &mut String, what: &str, seat: Option<Seat>) -> Result<(), Me
         ≡ string_bytes text.old ++ (what.now ++ seat_text (seat_said seat))) }
 {
     let Some(seat) = seat else {
-        try_write!(text, "{what}?")?;
-        return Ok(());
+        return try_push_all!(text; what, "?");
     };
-    let number = seat.number();
-    try_write!(text, "{what}p{number}")?;
-    Ok(())
+    try_push_all!(text; what, "p", seat.number())
 }
 
 // Appends what is dealt or drawn, and on which street.
@@ -101,8 +98,7 @@ fn push_street(text: &mut String, what: &str, street: u8) -> Result<(), Memory>
     ensures { OnOk result (string_bytes text.new
         ≡ string_bytes text.old ++ (what.now ++ (codes " street " ++ decimal street))) }
 {
-    try_write!(text, "{what} street {street}")?;
-    Ok(())
+    try_push_all!(text; what, " street ", street)
 }
 
 // Appends the line of a fold, if it is legal.
@@ -120,7 +116,7 @@ fn push_call(text: &mut String, call: Option<u64>) -> Result<(), Memory>
     ensures { OnOk result (string_bytes text.new ≡ string_bytes text.old ++ call_line call) }
 {
     if let Some(chips) = call {
-        try_write!(text, "call {chips}\n")?;
+        try_push_all!(text; "call ", chips, "\n")?;
     }
     Ok(())
 }
@@ -131,7 +127,7 @@ fn push_bring_in(text: &mut String, target: Option<u64>) -> Result<(), Memory>
         ≡ string_bytes text.old ++ bring_in_line target) }
 {
     if let Some(chips) = target {
-        try_write!(text, "bring-in to {chips}\n")?;
+        try_push_all!(text; "bring-in to ", chips, "\n")?;
     }
     Ok(())
 }
@@ -157,8 +153,7 @@ fn push_range(text: &mut String, least: u64, greatest: u64) -> Result<(), Memory
     if least == greatest {
         push_target(text, least)
     } else {
-        try_write!(text, "raise to {least}..{greatest}\n")?;
-        Ok(())
+        try_push_all!(text; "raise to ", least, "..", greatest, "\n")
     }
 }
 
@@ -181,6 +176,5 @@ fn push_target(text: &mut String, target: u64) -> Result<(), Memory>
     ensures { OnOk result (string_bytes text.new
         ≡ string_bytes text.old ++ target_line target) }
 {
-    try_write!(text, "raise to {target}\n")?;
-    Ok(())
+    try_push_all!(text; "raise to ", target, "\n")
 }
