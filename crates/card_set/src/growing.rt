@@ -1,7 +1,7 @@
 //! Lists and texts grow here. Each call asks the system for room for what it has to hold, and for
 //! no more than a list takes that doubles; if the system refuses it, the call answers `Memory`.
 ghost use Rattle.std.specs.Prelude.{◌≡◌, ◌+◌, ◌<◌, ◌≤◌, ◌++◌, [], ◌∷◌, if◌then◌else◌, is_ok, length};
-ghost use Rattle.std.specs.Prelude.{IfOk, IfSome, IsOk, IsSome, OnErr, OnOk, Some};
+ghost use Rattle.std.specs.Prelude.{IfOk, IsOk, IsSome, OnErr, OnOk, Some};
 ghost use Rattle.std.specs.Prelude.{string_bytes, encode_utf8, vec_capacity, vec_len};
 ghost use Rattle.std.specs.Fmt.{AppendsText};
 ghost use Rattle.std.specs.BTreeMap.{IsOrdered, IsUnchanged, Updates, insert_entry};
@@ -63,9 +63,6 @@ impl<T: Copy> TryExtend<T> for Vec<T> {
 /// A text that can grow.
 pub trait TryWrite {
     fn try_push_str(&mut self, string: &str) -> Result<(), Memory>;
-
-    fn try_write_fmt<D: Display + Drop>(&mut self, value: D) -> Result<(), Memory>
-        requires { IsSome (D.output value) };
 }
 
 impl TryWrite for String {
@@ -76,16 +73,16 @@ impl TryWrite for String {
     {
         self.push_str(string).map_err(|_| refused())
     }
+}
 
-    /// Adds what a value displays. Only a value whose text is known is taken, since another might
-    /// fail for a reason of its own.
-    fn try_write_fmt<D: Display + Drop>(&mut self, value: D) -> Result<(), Memory>
-        requires { IsSome (D.output value) }
-        ensures bytes { OnOk result
-            (AppendsText (string_bytes self.old) (string_bytes self.new) (D.output value)) }
-    {
-        self.write_fmt(value).map_err(|_| refused())
-    }
+/// Adds what a value displays to a text. Only a value whose text is known is taken, since another
+/// might fail for a reason of its own.
+pub(crate) fn write_displayed<D: Display + Drop>(text: &mut String, value: D) -> Result<(), Memory>
+    requires { IsSome (D.output value) }
+    ensures { OnOk result
+        (AppendsText (string_bytes text.old) (string_bytes text.new) (D.output value)) }
+{
+    text.write_fmt(value).map_err(|_| refused())
 }
 
 /// A map to which an entry can be added.
@@ -123,30 +120,4 @@ pub fn string_from(alloc: Global, text: &str) -> Result<String, Memory>
     ensures ok { IfOk result (λ copy. string_bytes copy ≡ text.now) }
 {
     String::from_str(alloc, text).map_err(|_| refused())
-}
-
-/// What a value displays. Only a value whose text is known is taken, since another might fail for a
-/// reason of its own.
-pub fn displayed<D: Display + Drop>(alloc: Global, value: D) -> Result<String, Memory>
-    requires { IsSome (D.output value) }
-    ensures ok { IfOk result (λ text.
-        IfSome (D.output value) (λ bytes. string_bytes text ≡ bytes)) }
-{
-    String::format(alloc, value).map_err(|_| refused())
-}
-
-/// A text by a format, as `format!`.
-#[macro_export]
-macro_rules! try_format {
-    (in $alloc:expr; $($arg:tt)+) => {
-        $crate::displayed($alloc, format_args!($($arg)+))
-    };
-}
-
-/// Adds a text by a format to another, as `write!`.
-#[macro_export]
-macro_rules! try_write {
-    ($text:expr, $($arg:tt)+) => {
-        $text.try_write_fmt(format_args!($($arg)+))
-    };
 }

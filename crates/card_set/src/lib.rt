@@ -17,7 +17,7 @@ mod spelling;
 
 pub use card::{Card, Rank, Slot, Suit};
 pub use deck::{card_at, card_from_index, index_in_deck, rank_index, suit_index};
-pub use growing::{TryExtend, TryInsert, TryPush, TryWrite, displayed, string_from, vec_from};
+pub use growing::{TryExtend, TryInsert, TryPush, TryWrite, string_from, vec_from};
 pub use libraries::clap_calls::{TryArg, matches_of};
 pub use libraries::csv_calls::{add_csv_field, csv_bytes, csv_with_head, end_csv_row};
 pub use libraries::env_calls::{ProcessWords, process_words};

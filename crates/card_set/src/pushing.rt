@@ -3,7 +3,7 @@
 ghost use Rattle.std.specs.Prelude.{◌≡◌, ℕ, List, ◌++◌, IfOk, OnOk, encode_utf8, string_bytes};
 ghost use Rattle.std.specs.Fmt.{decimal, signed_decimal};
 
-use crate::growing::{TryPush, TryWrite};
+use crate::growing::{TryPush, TryWrite, write_displayed};
 use crate::memory::Memory;
 use std::alloc::Global;
 
@@ -22,7 +22,7 @@ impl PushTo for u64 {
     ghost text_of = { decimal };
 
     fn push_to(&self, text: &mut String) -> Result<(), Memory> {
-        text.try_write_fmt(*self)
+        write_displayed(text, *self)
     }
 }
 
@@ -30,7 +30,7 @@ impl PushTo for u32 {
     ghost text_of = { decimal };
 
     fn push_to(&self, text: &mut String) -> Result<(), Memory> {
-        text.try_write_fmt(*self)
+        write_displayed(text, *self)
     }
 }
 
@@ -38,7 +38,7 @@ impl PushTo for u8 {
     ghost text_of = { decimal };
 
     fn push_to(&self, text: &mut String) -> Result<(), Memory> {
-        text.try_write_fmt(*self)
+        write_displayed(text, *self)
     }
 }
 
@@ -46,7 +46,7 @@ impl PushTo for usize {
     ghost text_of = { decimal };
 
     fn push_to(&self, text: &mut String) -> Result<(), Memory> {
-        text.try_write_fmt(*self)
+        write_displayed(text, *self)
     }
 }
 
@@ -54,7 +54,7 @@ impl PushTo for u128 {
     ghost text_of = { decimal };
 
     fn push_to(&self, text: &mut String) -> Result<(), Memory> {
-        text.try_write_fmt(*self)
+        write_displayed(text, *self)
     }
 }
 
@@ -62,7 +62,7 @@ impl PushTo for i64 {
     ghost text_of = { signed_decimal };
 
     fn push_to(&self, text: &mut String) -> Result<(), Memory> {
-        text.try_write_fmt(*self)
+        write_displayed(text, *self)
     }
 }
 
@@ -70,7 +70,7 @@ impl PushTo for i128 {
     ghost text_of = { signed_decimal };
 
     fn push_to(&self, text: &mut String) -> Result<(), Memory> {
-        text.try_write_fmt(*self)
+        write_displayed(text, *self)
     }
 }
 
