@@ -10,7 +10,7 @@ ghost use Rattle.hand_gen.specs.Loaded.{IsFewIn, IsWithCounts};
 use crate::counting::counts_of;
 use crate::making::make_play;
 use crate::summary::{PlayCounts, Summary};
-use card_set::{Memory, TryPush, TryWrite, try_format};
+use card_set::{Memory, TryPush, TryWrite, try_push_all};
 use hand_canon::SoundPlays;
 use std::alloc::Global;
 
@@ -80,43 +80,40 @@ pub fn write_summary(alloc: Global, summary: &Summary) -> Result<String, Memory>
     ensures { IfOk result (λ text. string_bytes text ≡ loads.summary_text summary.now) }
 {
     let mut text = String::new(alloc);
-    push_played(alloc, &mut text, summary)?;
-    push_spelled(alloc, &mut text, summary)?;
+    push_played(&mut text, summary)?;
+    push_spelled(&mut text, summary)?;
     Ok(text)
 }
 
 // Appends the lines of hands, moves, pots and tables to a text.
-fn push_played(alloc: Global, text: &mut String, summary: &Summary) -> Result<(), Memory>
+fn push_played(text: &mut String, summary: &Summary) -> Result<(), Memory>
     ensures { OnOk result (string_bytes text.new
         ≡ string_bytes text.old ++ loads.played_text summary.now) }
 {
-    push_number(alloc, text, "hands ", summary.hands)?;
-    push_number(alloc, text, "\nmoves ", summary.moves)?;
-    push_number(alloc, text, "\npots ", summary.pots)?;
-    push_number(alloc, text, "\nphh ", summary.phh)?;
+    push_number(text, "hands ", summary.hands)?;
+    push_number(text, "\nmoves ", summary.moves)?;
+    push_number(text, "\npots ", summary.pots)?;
+    push_number(text, "\nphh ", summary.phh)?;
     Ok(())
 }
 
 // Appends the lines of the formats that are counted in bytes to a text.
-fn push_spelled(alloc: Global, text: &mut String, summary: &Summary) -> Result<(), Memory>
+fn push_spelled(text: &mut String, summary: &Summary) -> Result<(), Memory>
     ensures { OnOk result (string_bytes text.new
         ≡ string_bytes text.old ++ loads.spelled_text summary.now) }
 {
-    push_number(alloc, text, "\nohh ", summary.ohh)?;
-    push_number(alloc, text, " ", summary.ohh_bytes)?;
-    push_number(alloc, text, "\nacpc ", summary.acpc)?;
-    push_number(alloc, text, " ", summary.acpc_bytes)?;
+    push_number(text, "\nohh ", summary.ohh)?;
+    push_number(text, " ", summary.ohh_bytes)?;
+    push_number(text, "\nacpc ", summary.acpc)?;
+    push_number(text, " ", summary.acpc_bytes)?;
     text.try_push_str("\n")?;
     Ok(())
 }
 
 // Appends a label and a number to a text.
-fn push_number(alloc: Global, text: &mut String, label: &str, number: u128) -> Result<(), Memory>
+fn push_number(text: &mut String, label: &str, number: u128) -> Result<(), Memory>
     ensures { OnOk result (string_bytes text.new
         ≡ string_bytes text.old ++ (label.now ++ decimal number)) }
 {
-    let number = try_format!(in alloc; "{number}")?;
-    text.try_push_str(label)?;
-    text.try_push_str(number.as_str())?;
-    Ok(())
+    try_push_all!(text; label, number)
 }
