@@ -1,6 +1,7 @@
 -- The parser is the one whose finds are known, and so are the words, which it takes.
 use Rattle.std.proofs.Common.{ap, refl, sym, ◌≡◌, ◌∙◌, codes, true, is_some, map, string_bytes, List, [], ◌∷◌, Some, drop, slice_get}
-use Rattle.std.proofs.lemmas.Result.{IfErr-weaker, IfOk-weaker}
+use Rattle.std.proofs.lemmas.Option.{IfSome_then}
+use Rattle.std.proofs.lemmas.Result.{IfOk-weaker}
 use Rattle.clap.specs.Words.{App, Row, Text, app_of, first_of, found_of, is_simple, matches_of, one_of, rows_of, takes}
 use Rattle.clap.proofs.WalkLemmas.{first_value-rows, one_text-rows}
 use Rattle.command_words.specs.GivenOptions.{GivenOptions, no_options, options_said}
@@ -41,17 +42,15 @@ taken_by : (app : App) (words : List Text) → app ≡ handref → is_some (requ
 unfolding are_taken
 taken_by app words same some = ap (λ (some : App). takes some words) same ∙ all_taken words some
 
-pub returns-clause-memory : goal.returns-clause-memory
-returns-clause-memory c =
+pub returns-clause-taken : goal.returns-clause-taken
+returns-clause-taken c =
     let words : List Text = map string_bytes c.args.words.now in
-    IfErr-weaker c.try_get_matches_from.result _ _
-    (λ error passes. passes (taken_by (app_of c.in_ok-parser.field-0) words c.in_ok-parser.ensures c.requires))
-    c.try_get_matches_from.ensures.passes
+    c.matches_of.ensures.taken (taken_by (app_of c.in_ok-parser.field-0) words c.in_ok-parser.ensures c.requires)
 
 pub returns-clause-said : goal.returns-clause-said
 returns-clause-said c =
     let words : List Text = map string_bytes c.args.words.now in
-    IfOk-weaker c.try_get_matches_from.result _ _ (λ matches has.
+    IfOk-weaker c.matches_of.result _ _ (λ matched is. IfSome_then matched is (λ matches has.
     let found = found_of matches in
     let rows : rows_of found ≡ rows_found words =
     known (app_of c.in_ok-parser.field-0) words (rows_of found) c.in_ok-parser.ensures (λ simple. (has simple).0) in
@@ -79,4 +78,4 @@ returns-clause-said c =
         shows_lines = text (codes "lines") ∙ of_words.found.shows_lines;
         asks_each = text (codes "each") ∙ of_words.found.asks_each;
       };
-    }) c.try_get_matches_from.ensures.matches
+    })) c.matches_of.ensures.found
