@@ -10,4 +10,3 @@ pub mod Ranks
 pub mod Row
 pub mod Spelling
 pub mod UpCards
-pub mod Refusal
