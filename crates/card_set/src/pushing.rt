@@ -1,4 +1,4 @@
-//! Values that are told as text. Each appends its text to another text, and fails only if memory is
+//! Values that have a text. Each appends its text to another text, and fails only if memory is
 //! refused.
 ghost use Rattle.std.specs.Prelude.{◌≡◌, ℕ, List, ◌++◌, IfOk, OnOk, encode_utf8, string_bytes};
 ghost use Rattle.std.specs.Fmt.{decimal, signed_decimal};
@@ -98,7 +98,7 @@ impl PushTo for &str {
     }
 }
 
-/// One text behind another.
+/// One text after another.
 impl<A: PushTo, B: PushTo> PushTo for (A, B) {
     ghost text_of = { λ pair. A.text_of pair.0 ++ B.text_of pair.1 };
 
