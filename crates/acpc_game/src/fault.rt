@@ -1,11 +1,10 @@
 //! The faults of a log or a game file, each with its line and the byte that shows it.
-ghost use Rattle.std.specs.Prelude.{◌≡◌, Some};
+ghost use Rattle.std.specs.Prelude.{◌≡◌};
 ghost use Rattle.acpc_game.specs.FaultText as texts;
 ghost use Rattle.acpc_game.specs.Faults as faults;
 
 use card_set::{Memory, PushTo, try_push_all};
 use first_fault::{Quantity, ReadError, saturating_u32};
-use std::fmt;
 
 /// What is wrong with a line.
 #[derive(Clone, Copy, Debug, PartialEq, Eq)]
@@ -134,16 +133,6 @@ impl PushTo for AcpcFault {
     fn push_to(&self, text: &mut String) -> Result<(), Memory> {
         let (line, byte) = self.location();
         try_push_all!(text; "line ", line, ", byte ", byte, ": ", self.name())
-    }
-}
-
-impl fmt::Display for AcpcFault {
-    ghost output = { λ fault. Some (texts.fault_text fault) };
-
-    fn fmt<W: fmt::Write>(&self, f: &mut fmt::Formatter<W>) -> fmt::Result {
-        let (line, byte) = self.location();
-        let name = self.name();
-        write!(f, "line {line}, byte {byte}: {name}")
     }
 }
 

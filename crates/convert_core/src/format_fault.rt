@@ -1,5 +1,5 @@
 //! Why bytes cannot be read, one case for each notation.
-ghost use Rattle.std.specs.Prelude.{◌≡◌, Some, is_some};
+ghost use Rattle.std.specs.Prelude.{◌≡◌, is_some};
 ghost use Rattle.convert_core.specs.FaultText.{format_text};
 ghost use Rattle.convert_core.specs.Faults.{excess_of, is_out_of_memory};
 ghost use Rattle.convert_core.specs.declared.format_fault.FormatFault.TheVariants as formats;
@@ -11,7 +11,6 @@ use ohh_format::OhhFault;
 use ohh_members::fault::MemberFaultKind;
 use phh_format::PhhFault;
 use phh_reading::field_fault::FieldFaultKind;
-use std::fmt;
 
 /// The first fault of bytes in their notation.
 #[derive(Debug, Drop)]
@@ -89,18 +88,6 @@ impl PushTo for FormatFault {
             FormatFault::Phh(fault) => fault.push_to(text),
             FormatFault::Ohh(fault) => fault.push_to(text),
             FormatFault::Acpc(fault) => fault.push_to(text),
-        }
-    }
-}
-
-impl fmt::Display for FormatFault {
-    ghost output = { λ fault. Some (format_text fault) };
-
-    fn fmt<W: fmt::Write>(&self, f: &mut fmt::Formatter<W>) -> fmt::Result {
-        match self {
-            FormatFault::Phh(fault) => write!(f, "{fault}"),
-            FormatFault::Ohh(fault) => write!(f, "{fault}"),
-            FormatFault::Acpc(fault) => write!(f, "{fault}"),
         }
     }
 }

@@ -1,12 +1,11 @@
 //! Why a hand is refused, and which one is.
-ghost use Rattle.std.specs.Prelude.{◌≡◌, Some};
+ghost use Rattle.std.specs.Prelude.{◌≡◌};
 ghost use Rattle.convert_core.specs.FaultText.{refusal_text};
 ghost use Rattle.convert_core.specs.declared.refusal.PlaysFault.TheVariants.{Memory as OfMemory};
 
 use card_set::{Memory, PushTo};
 use hand_canon::FactDiffers;
 use replay_core::ReplayFault;
-use std::fmt;
 
 /// Why a hand is refused.
 #[derive(Clone, Copy, Debug, PartialEq, Eq)]
@@ -25,17 +24,6 @@ impl PushTo for Refusal {
         match self {
             Refusal::Replay(fault) => fault.push_to(text),
             Refusal::Fact(differs) => differs.push_to(text),
-        }
-    }
-}
-
-impl fmt::Display for Refusal {
-    ghost output = { λ why. Some (refusal_text why) };
-
-    fn fmt<W: fmt::Write>(&self, f: &mut fmt::Formatter<W>) -> fmt::Result {
-        match self {
-            Refusal::Replay(fault) => write!(f, "{fault}"),
-            Refusal::Fact(differs) => write!(f, "{differs}"),
         }
     }
 }

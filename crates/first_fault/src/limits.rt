@@ -1,10 +1,9 @@
 //! The limits of what is read, except those of a hand. Each is a decision of this project.
-ghost use Rattle.std.specs.Prelude.{◌≡◌, Some};
+ghost use Rattle.std.specs.Prelude.{◌≡◌};
 ghost use Rattle.first_fault.specs.declared.limits.TheConstants.{MOST_FILE_MOVES, MOST_HANDS, MOST_TEXT_BYTES};
 ghost use Rattle.first_fault.specs.Quantities.{quantity_text};
 
 use card_set::{Memory, PushTo, TryWrite};
-use std::fmt;
 
 /// The most hands of a file.
 pub const MOST_HANDS: usize = 65_536;
@@ -40,20 +39,6 @@ impl PushTo for Quantity {
 
     fn push_to(&self, text: &mut String) -> Result<(), Memory> {
         text.try_push_str(match self {
-            Quantity::Hands => "hands",
-            Quantity::Moves => "moves of a hand",
-            Quantity::OtherEvents => "other events of a hand",
-            Quantity::FileMoves => "moves of the file",
-            Quantity::TextBytes => "text bytes",
-        })
-    }
-}
-
-impl fmt::Display for Quantity {
-    ghost output = { λ quantity. Some (quantity_text quantity) };
-
-    fn fmt<W: fmt::Write>(&self, f: &mut fmt::Formatter<W>) -> fmt::Result {
-        f.write_str(match self {
             Quantity::Hands => "hands",
             Quantity::Moves => "moves of a hand",
             Quantity::OtherEvents => "other events of a hand",

@@ -1,5 +1,5 @@
 //! Finds the first stated fact that differs from the trace, with both numbers.
-ghost use Rattle.std.specs.Prelude.{◌≡◌, ◌≤◌, ◌*◌, ◌^◌, Some, find, option_map, pos};
+ghost use Rattle.std.specs.Prelude.{◌≡◌, ◌≤◌, ◌*◌, ◌^◌, find, option_map, pos};
 ghost use Rattle.std.specs.Option.{ForSome};
 ghost use Rattle.std.specs.Result.{result_err};
 ghost use Rattle.chip_ledger.specs.SeatRow.{amount_of};
@@ -12,7 +12,6 @@ use crate::record::{NetRow, Stated};
 use crate::trace::Trace;
 use card_set::{Memory, PushTo, TryWrite, try_push_all};
 use chip_ledger::{Seat, SeatRow};
-use std::fmt;
 
 /// A fact that a record may state of the end of a hand.
 #[derive(Clone, Copy, Debug, PartialEq, Eq)]
@@ -53,39 +52,6 @@ impl PushTo for FactDiffers {
 
     fn push_to(&self, text: &mut String) -> Result<(), Memory> {
         try_push_all!(text; self.which, " stated ", self.stated, ", replayed ", self.replayed)
-    }
-}
-
-impl fmt::Display for Which {
-    ghost output = { λ which. Some (which_text which) };
-
-    fn fmt<W: fmt::Write>(&self, f: &mut fmt::Formatter<W>) -> fmt::Result {
-        match *self {
-            Which::Finish(seat) => {
-                let number = seat.number;
-                write!(f, "finish p{number}")
-            }
-            Which::Win(seat) => {
-                let number = seat.number;
-                write!(f, "win p{number}")
-            }
-            Which::Pots => f.write_str("pots"),
-            Which::Value(seat) => {
-                let number = seat.number;
-                write!(f, "value p{number}")
-            }
-        }
-    }
-}
-
-impl fmt::Display for FactDiffers {
-    ghost output = { λ differs. Some (differs_text differs) };
-
-    fn fmt<W: fmt::Write>(&self, f: &mut fmt::Formatter<W>) -> fmt::Result {
-        let which = self.which;
-        let stated = self.stated;
-        let replayed = self.replayed;
-        write!(f, "{which} stated {stated}, replayed {replayed}")
     }
 }
 

@@ -1,10 +1,9 @@
 //! What may come next in a hand, and why an event may not.
-ghost use Rattle.std.specs.Prelude.{◌≡◌, Some};
+ghost use Rattle.std.specs.Prelude.{◌≡◌};
 ghost use Rattle.play_event.specs.ReasonText.{reason_text};
 ghost use Rattle.play_event.specs.TurnTargets.{is_bet_due};
 
 use card_set::{Memory, PushTo, TryWrite, try_push_all};
-use std::fmt;
 
 /// What is due. Streets count from 1.
 #[derive(Clone, Copy, Debug, PartialEq, Eq)]
@@ -79,29 +78,6 @@ impl PushTo for Illegal {
             Illegal::RaiseTooBig => "RaiseTooBig",
             Illegal::AmountDiffers { stated, due } => {
                 return try_push_all!(text; "AmountDiffers stated ", stated, ", due ", due);
-            }
-        })
-    }
-}
-
-impl fmt::Display for Illegal {
-    ghost output = { λ reason. Some (reason_text reason) };
-
-    fn fmt<W: fmt::Write>(&self, f: &mut fmt::Formatter<W>) -> fmt::Result {
-        f.write_str(match *self {
-            Illegal::HandOver => "HandOver",
-            Illegal::WrongKind => "WrongKind",
-            Illegal::WrongSeat => "WrongSeat",
-            Illegal::WrongCount => "WrongCount",
-            Illegal::CardTaken => "CardTaken",
-            Illegal::NotHeld => "NotHeld",
-            Illegal::UpCardUnknown => "UpCardUnknown",
-            Illegal::NothingToCall => "NothingToCall",
-            Illegal::RaiseClosed => "RaiseClosed",
-            Illegal::RaiseTooSmall => "RaiseTooSmall",
-            Illegal::RaiseTooBig => "RaiseTooBig",
-            Illegal::AmountDiffers { stated, due } => {
-                return write!(f, "AmountDiffers stated {stated}, due {due}");
             }
         })
     }

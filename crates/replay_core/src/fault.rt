@@ -1,11 +1,10 @@
 //! Why a script has no trace.
-ghost use Rattle.std.specs.Prelude.{◌≡◌, Some};
+ghost use Rattle.std.specs.Prelude.{◌≡◌};
 ghost use Rattle.replay_core.specs.FaultText.{fault_text};
 ghost use Rattle.replay_core.specs.declared.fault.ReplayFault.TheVariants as faults;
 
 use card_set::{Memory, PushTo, TryWrite, try_push_all};
 use play_event::Illegal;
-use std::fmt;
 
 /// Why a script has no trace, in the order in which faults are looked for. Out of memory may come
 /// instead of each.
@@ -45,22 +44,6 @@ impl PushTo for ReplayFault {
             ReplayFault::RakeTooBig { pot } => try_push_all!(text; "pot ", pot, ": rake too big"),
             ReplayFault::NoShownHand { pot } => try_push_all!(text; "pot ", pot, ": no shown hand"),
             ReplayFault::Memory(_) => text.try_push_str("out of memory"),
-        }
-    }
-}
-
-impl fmt::Display for ReplayFault {
-    ghost output = { λ fault. Some (fault_text fault) };
-
-    fn fmt<W: fmt::Write>(&self, f: &mut fmt::Formatter<W>) -> fmt::Result {
-        match *self {
-            ReplayFault::Illegal { event, at, why } => {
-                write!(f, "event {event}, action {at}: {why}")
-            }
-            ReplayFault::EndsEarly { events } => write!(f, "ends early after {events} events"),
-            ReplayFault::RakeTooBig { pot } => write!(f, "pot {pot}: rake too big"),
-            ReplayFault::NoShownHand { pot } => write!(f, "pot {pot}: no shown hand"),
-            ReplayFault::Memory(_) => f.write_str("out of memory"),
         }
     }
 }
