@@ -1,6 +1,6 @@
 //! Why bytes cannot be read as hands in Open Hand History: their first fault, with its hand and the
 //! path of its member.
-ghost use Rattle.std.specs.Prelude.{◌≡◌, Some, IfSome};
+ghost use Rattle.std.specs.Prelude.{◌≡◌, IfSome};
 ghost use Rattle.ohh_reading.specs.FaultText.{fault_text};
 ghost use Rattle.ohh_reading.specs.Reading.{wrong_in, wrong_of};
 ghost use Rattle.ohh_reading.specs.declared.fault.OhhFault.TheVariants as faults;
@@ -9,14 +9,15 @@ use card_set::{Memory, PushTo, TryWrite, try_push_all};
 use first_fault::Text;
 use ohh_members::fault::{MemberFault, MemberFaultKind};
 use std::alloc::Global;
-use std::fmt;
 
 /// The first fault of bytes, in the order in which members are examined. Hands are counted from 1
 /// in the order of reading.
 #[derive(Debug, Drop)]
 pub enum OhhFault {
     /// A block is not JSON.
-    Text { hand: u32 },
+    Text {
+        hand: u32,
+    },
     /// What is wrong with a hand, and at which member.
     InHand {
         hand: u32,
@@ -54,22 +55,6 @@ impl PushTo for OhhFault {
                 try_push_all!(text; "hand ", *hand, ", ", path.as_str(), ": ", what.name())
             }
             OhhFault::Memory(_) => text.try_push_str("out of memory"),
-        }
-    }
-}
-
-impl fmt::Display for OhhFault {
-    ghost output = { λ fault. Some (fault_text fault) };
-
-    fn fmt<W: fmt::Write>(&self, f: &mut fmt::Formatter<W>) -> fmt::Result {
-        match self {
-            OhhFault::Text { hand } => write!(f, "hand {hand}: Text"),
-            OhhFault::InHand { hand, path, what } => {
-                let path = path.as_str();
-                let name = what.name();
-                write!(f, "hand {hand}, {path}: {name}")
-            }
-            OhhFault::Memory(_) => f.write_str("out of memory"),
         }
     }
 }

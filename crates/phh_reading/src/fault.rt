@@ -1,6 +1,6 @@
 //! Why bytes cannot be read as hands in the Poker Hand History format: their first fault, with its
 //! hand and its key.
-ghost use Rattle.std.specs.Prelude.{◌≡◌, Some, IfSome};
+ghost use Rattle.std.specs.Prelude.{◌≡◌, IfSome};
 ghost use Rattle.phh_reading.specs.FaultText.{fault_text};
 ghost use Rattle.phh_reading.specs.Reading.{wrong_in, wrong_of};
 ghost use Rattle.phh_reading.specs.declared.fault.PhhFault.TheVariants as faults;
@@ -9,7 +9,6 @@ use crate::field_fault::{FieldFault, FieldFaultKind};
 use card_set::{Memory, PushTo, TryWrite, try_push_all};
 use first_fault::Text;
 use std::alloc::Global;
-use std::fmt;
 
 /// The first fault of bytes, in the order in which fields are examined.
 #[derive(Debug, Drop)]
@@ -55,22 +54,6 @@ impl PushTo for PhhFault {
                 try_push_all!(text; "hand ", *hand, ", ", key.as_str(), ": ", what.name())
             }
             PhhFault::Memory(_) => text.try_push_str("out of memory"),
-        }
-    }
-}
-
-impl fmt::Display for PhhFault {
-    ghost output = { λ fault. Some (fault_text fault) };
-
-    fn fmt<W: fmt::Write>(&self, f: &mut fmt::Formatter<W>) -> fmt::Result {
-        match self {
-            PhhFault::Text => f.write_str("Text"),
-            PhhFault::InHand { hand, key, what } => {
-                let key = key.as_str();
-                let name = what.name();
-                write!(f, "hand {hand}, {key}: {name}")
-            }
-            PhhFault::Memory(_) => f.write_str("out of memory"),
         }
     }
 }
