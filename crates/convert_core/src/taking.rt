@@ -1,6 +1,6 @@
 //! The one loop over the records of a file.
 ghost use Rattle.std.specs.Prelude.{◌≡◌, ◌≤◌, ◌+◌, ◌++◌, ◌⊎◌, [], ◌∷◌, true, false, All, List, length, IfErr, IfOk, OnOk};
-ghost use Rattle.card_set.specs.declared.room.TheConstants.{MOST_ROOM};
+ghost use Rattle.convert_core.specs.declared.taking.TheConstants.{MOST_PLAYS_AHEAD};
 ghost use Rattle.convert_core.specs.Judged.{IsFaultAt, IsPlaysFaultOf, IsPlaysOutOfMemory, IsRefusedFor};
 ghost use Rattle.convert_core.specs.declared.refusal.PlaysFault.TheVariants as plays_faults;
 ghost use Rattle.first_fault.specs.declared.limits.TheConstants.{MOST_HANDS};
@@ -51,12 +51,18 @@ pub fn judge_all<T: VerdictVisitor>(
     Ok(kept)
 }
 
+// The most plays for which room is asked for ahead: each is about 3 KB.
+const MOST_PLAYS_AHEAD: usize = 4_096;
+
 // The number of plays to reserve room for.
 fn room<T: VerdictVisitor>(visitor: &T, hands: usize) -> usize
-    requires { hands ≤ MOST_HANDS }
-    ensures { result ≤ MOST_ROOM }
+    ensures { result ≤ MOST_PLAYS_AHEAD }
 {
-    if visitor.retains_plays() { hands } else { 1 }
+    if visitor.retains_plays() {
+        hands.min(MOST_PLAYS_AHEAD)
+    } else {
+        1
+    }
 }
 
 // Frees the previous play unless plays are retained: each is a few thousand bytes.
