@@ -2,10 +2,6 @@
 use Rattle.std.specs.Prelude.{ℕ}
 use Rattle.host_io.specs.declared.file_shelf.FileShelf.{FileShelf}
 
--- the files of the system that it opens
-abbrev pub system_of : {R File Folder : Type 0} → FileShelf R File Folder → R
-system_of shelf = shelf.files
-
 -- how often it failed: once for each path that leads somewhere and could not be opened, or read to
 -- its end
 abbrev pub fault_count : {R File Folder : Type 0} → FileShelf R File Folder → ℕ

@@ -67,11 +67,10 @@ fn fetch_opened<F: Read + Drop>(
 }
 
 impl<R: Files> FileShelf<R> {
-    ghost use Rattle.host_io.specs.FileShelf.{fault_count, system_of};
+    ghost use Rattle.host_io.specs.FileShelf.{fault_count};
 
     /// A shelf over the files that this runtime opens.
     pub fn new(files: R) -> FileShelf<R>
-        ensures files { system_of result ≡ files }
         ensures faults { fault_count result ≡ 0 }
     {
         FileShelf { files, faults: 0 }

@@ -4,7 +4,7 @@ ghost use Rattle.std.specs.Process.{exit_status};
 ghost use Rattle.std.specs.Vec.Iter.{into_iter_items};
 ghost use Rattle.card_set.specs.ProcessWords.{args_of};
 ghost use Rattle.poker_cli.specs.Process.{LacksWords, RunKeeps, words_given};
-ghost use Rattle.poker_cli.specs.Ran.{HasRun, RunsOver, devices};
+ghost use Rattle.poker_cli.specs.Ran.{HasRun, RunsOver, streams};
 ghost use Rattle.poker_cli.specs.Run.{change_of};
 ghost use Rattle.poker_cli.specs.Status.{IsStatusNumber};
 
@@ -26,9 +26,9 @@ pub fn run_process<R: Read + Drop, W: Write + Drop, D: Write + Drop>(
     out: W,
     diag: D,
 ) -> ExitCode
-    // What is returned is the number of the status of a run over these streams and files, on the
-    // words of the process. It is 8 only if the status holds what a library said.
-    ensures ran { RunsOver rt input out diag (exit_status result) }
+    // What is returned is the number of the status of a run over these streams, on the words of
+    // the process. It is 8 only if the status holds what a library said.
+    ensures ran { RunsOver input out diag (exit_status result) }
     ensures number { IsStatusNumber (exit_status result) }
 {
     let mut input = StdSource::new(input);
@@ -66,9 +66,9 @@ pub fn run_with<S: Source, H: Shelf, K: Sink, D: Sink>(
         (change_of K.held K.faults out.old out.new)
         (change_of D.held D.faults diag.old diag.new) result
         input.old input.new shelf.old shelf.new out.old out.new diag.old diag.new }
-    // That it ran on these words and over these devices, is given by this call alone.
-    ensures ran { HasRun all (devices input.old shelf.old out.old diag.old)
-        (devices input.new shelf.new out.new diag.new) result }
+    // That it ran on these words and over these streams, is given by this call alone.
+    ensures ran { HasRun all (streams input.old out.old diag.old)
+        (streams input.new out.new diag.new) result }
     // Words that are not text are no command.
     ensures no_text { IfOk all (λ words. args_of words ≡ None → result ≡ Status.Usage) }
 {
