@@ -1,4 +1,4 @@
-//! The fields of a row: values that are told as text, one after the other.
+//! The fields of a row: values that have a text, one after the other.
 ghost use Rattle.std.specs.Prelude.{◌≡◌, ◌++◌, ◌∷◌, [], ℕ, List, OnOk, Some, length, suc};
 ghost use Rattle.std.proofs.Common.{ap, refl};
 ghost use Rattle.csv.specs.Writing.{default_writer, first_length, writer_setup};

@@ -15,4 +15,5 @@ pub use asking::{options, options_at};
 pub use choices::{Options, RaiseSet};
 pub use every_point::push_every_point;
 pub use laws::{law_of_one_options, law_of_one_text};
+pub use now::options_now;
 pub use printing::{options_text, push_options};

@@ -6,7 +6,7 @@ mod Rows
 pub mod Hands
 mod Moves
 mod NamedMoves
-mod Pasts
+pub mod Pasts
 mod Printed
 -- The place of a name among names, and that names in the order in which they are first seen are
 -- different.

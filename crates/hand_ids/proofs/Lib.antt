@@ -1,0 +1,11 @@
+pub mod Parts
+pub mod Safe
+pub mod Numbers
+pub mod OneEscape
+pub mod Events
+pub mod SamePlays
+pub mod SameNotes
+pub mod Sound
+pub mod OneText
+pub mod Printable
+pub mod Pushed
