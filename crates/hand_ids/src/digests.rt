@@ -25,20 +25,20 @@ pub struct HandIds {
     /// Of the text of the play.
     pub play: [u8; 32],
     /// Of the text of the play with its notes.
-    pub record: [u8; 32],
+    pub with_notes: [u8; 32],
 }
 
 /// The identifiers of a hand, wherever it is in its file.
 #[tactic(auto, unfolding(crate::specs::Ids::play_id, crate::specs::Ids::record_id))]
 pub fn ids_of(alloc: Global, play: &SoundPlay<'_>) -> Result<HandIds, Memory>
     ensures play { IfOk result (λ ids. ids.play ≡ play_id play.now) }
-    ensures record { IfOk result (λ ids. ids.record ≡ record_id play.now) }
+    ensures with_notes { IfOk result (λ ids. ids.with_notes ≡ record_id play.now) }
 {
     let text = play_text(alloc, play)?;
-    let record = record_text(alloc, play)?;
+    let long = record_text(alloc, play)?;
     Ok(HandIds {
         play: digest_of(text.as_str()),
-        record: digest_of(record.as_str()),
+        with_notes: digest_of(long.as_str()),
     })
 }
 
@@ -46,7 +46,7 @@ pub fn ids_of(alloc: Global, play: &SoundPlay<'_>) -> Result<HandIds, Memory>
 /// of hands that are not equal. The function does nothing: its contract is a law.
 pub fn law_of_equal_ids()
     ensures play { (play other : Play) → play.trace ≡ other.trace → play_id play ≡ play_id other }
-    ensures record { (place there : ℕ) (play other : Play) → play.trace ≡ other.trace
+    ensures with_notes { (place there : ℕ) (play other : Play) → play.trace ≡ other.trace
         → without_number (notes_of place play) ≡ without_number (notes_of there other)
         → record_id play ≡ record_id other }
 {}

@@ -44,8 +44,8 @@ pub fn law_of_one_line()
         → list_all is_of_line (record_text play.trace (notes_of place play)) ≡ true }
 {}
 
-/// Each byte of a text is printable ASCII, if the texts of the notes are made of bytes. The function
-/// does nothing: its contract is a law.
+/// Each byte of a text is printable ASCII, if the texts of the notes are made of bytes. The
+/// function does nothing: its contract is a law.
 pub fn law_of_printable_texts()
     ensures plays { (play : Play) → IsSound play
         → list_all is_printable (play_text play.trace) ≡ true }

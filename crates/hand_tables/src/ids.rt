@@ -44,7 +44,7 @@ pub fn push_ids(
     let ids = ids_of(alloc, play)?;
     let name = hand_name(alloc, number, play.play())?;
     let play_digits = ids.play;
-    let record_digits = ids.record;
+    let record_digits = ids.with_notes;
     table.push_row(&fields!(
         number,
         name.as_str(),

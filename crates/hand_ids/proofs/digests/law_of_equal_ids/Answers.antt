@@ -10,7 +10,7 @@ pub returns-clause-play : goal.returns-clause-play
 unfolding play_id
 returns-clause-play c = λ play other same. ap (λ (trace : Trace). sha256 (play_text trace)) same
 
-pub returns-clause-record : goal.returns-clause-record
+pub returns-clause-with_notes : goal.returns-clause-with_notes
 unfolding record_id record_text
-returns-clause-record c = λ place there play other same notes.
+returns-clause-with_notes c = λ place there play other same notes.
     ap₂ (λ (trace : Trace) (said : SaidNotes). sha256 (record_text trace said)) same notes
