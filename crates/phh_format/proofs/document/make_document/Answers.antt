@@ -23,7 +23,7 @@ loop-left-preserved c =
     record {
       within = omega (arith, within);
       hands = one_before plays index c.loop-left.left c.get-in-loop-left.result c.as_str.result.now (table_view c.loop-left.table) (table_view c.put.new.table) (omega (arith, c.loop-left-test.true)) c.get-in-loop-left.ensures
-          (c.as_str.ensures.value ∙ c.in_ok-key.ensures.ok) c.loop-left.invariant.hands
+          (c.as_str.ensures.value ∙ c.in_ok-key.ensures) c.loop-left.invariant.hands
           (c.in_ok-put.ensures ∙ ap (λ (value : Data). with_member c.as_str.result.now value (table_view c.loop-left.table)) (view-Table c.in_ok-hand.hand) ∙ ap (λ (hand : Members). with_member c.as_str.result.now (table hand) (table_view c.loop-left.table)) c.in_ok-hand.ensures);
     }
 
