@@ -96,5 +96,6 @@ fn make_text(
     ensures read { IfOk result (λ text. IsTextOf dialect index play.now) }
 {
     let value = hand_value(alloc, dialect, index, play.play())?;
-    json_bytes(alloc, &value)
+    let text = json_bytes(alloc, &value)?;
+    Ok(text)
 }

@@ -22,16 +22,16 @@ returns-clause-text c =
     let tree = hand_tree c.args.dialect c.args.index c.args.play.now in
     let plain = hand_plain c.args.dialect c.args.index c.args.play.now in
     let seen : view c.in_ok-value.value ≡ tree = c.in_ok-value.ensures ∙ ap (hand_tree c.args.dialect c.args.index) c.play.ensures.same in
-    c.json_bytes.ensures.text (ap has_float seen ∙ plain.whole) ∙ ap compact_text seen
+    c.in_ok-text.ensures.text (ap has_float seen ∙ plain.whole) ∙ ap compact_text seen
 
 pub returns-clause-read : goal.returns-clause-read
 returns-clause-read c =
     let tree = hand_tree c.args.dialect c.args.index c.args.play.now in
     let plain = hand_plain c.args.dialect c.args.index c.args.play.now in
     let seen : view c.in_ok-value.value ≡ tree = c.in_ok-value.ensures ∙ ap (hand_tree c.args.dialect c.args.index) c.play.ensures.same in
-    let text = c.json_bytes.ensures.text (ap has_float seen ∙ plain.whole) ∙ ap compact_text seen in
+    let text = c.in_ok-text.ensures.text (ap has_float seen ∙ plain.whole) ∙ ap compact_text seen in
     let deep = ap depth seen in
     record {
-      text = subst IsUtf8 text c.json_bytes.ensures.utf8;
-      tree = ap read (sym text) ∙ c.json_bytes.ensures.reads_back (omega (arith, deep, plain.shallow)) ∙ ap Some seen;
+      text = subst IsUtf8 text c.in_ok-text.ensures.utf8;
+      tree = ap read (sym text) ∙ c.in_ok-text.ensures.reads_back (omega (arith, deep, plain.shallow)) ∙ ap Some seen;
     }

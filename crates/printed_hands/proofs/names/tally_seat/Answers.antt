@@ -13,7 +13,7 @@ use Rattle.printed_hands.proofs.Places.{IsPlaceFrom, is_place, its_name, names_l
 use Rattle.printed_hands.proofs.names.tally_seat.Goals as goal
 
 -- a new name
-module _ (c : goal.In_ok-insert_tally) where
+module _ (c : goal.In_ok-try_insert) where
   abbrev entries : List (ℕ × NamedTally)
   entries = c.args.tallies.now.entries
 
@@ -37,14 +37,14 @@ module _ (c : goal.In_ok-insert_tally) where
 
 pub returns-then-place-others-clause-rows : goal.returns-then-place-others-clause-rows
 returns-then-place-others-clause-rows c =
-    ap named_tallies c.in_ok-insert_tally.ensures
+    ap named_tallies c.in_ok-try_insert.ensures.entries
     ∙ rows_put (entries c) (named c) (name c) c.in_ok-place.place c.requires.tallied.places (placed c) c.in_ok-name.ensures
     ∙ ap (insert_entry bytes_eq (named_tallies (entries c)) (name c)) (tally_is c)
     ∙ ap (λ (text : List ℕ). insert_entry bytes_eq (named_tallies (entries c)) text (with_seat c.args.number (tally_at (named_tallies (entries c)) text) (seated_in c.args.play.now c.args.seat.number))) c.name_of-name.ensures
 
 pub returns-then-place-others-clause-tallied : goal.returns-then-place-others-clause-tallied
 returns-then-place-others-clause-tallied c =
-    subst (AreTallied c.place_of.new.self) (sym c.in_ok-insert_tally.ensures)
+    subst (AreTallied c.place_of.new.self) (sym c.in_ok-try_insert.ensures.entries)
     (still_tallied c.place_of.new.self (entries c) (named c) (name c) c.in_ok-place.place
     (c.in_ok-place.ensures.names (tally_names (named_tallies (entries c))) c.requires.tallied.names (many c)) c.requires.tallied.places (placed c) c.in_ok-name.ensures)
 
