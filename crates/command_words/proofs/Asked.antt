@@ -36,7 +36,8 @@ command_begins word options =
     (by (codes "convert") _ _ refl (by (codes "game") _ _ refl (by (codes "load") _ _ refl
     (by (codes "views") _ _ refl (by (codes "options") _ _ refl (by (codes "session") _ _ refl
     (by (codes "equity") _ _ refl (by (codes "judge") _ _ refl
-    (by (codes "compare") _ _ refl (λ some. cc))))))))))))
+    (by (codes "compare") _ _ refl (by (codes "seats") _ _ refl (by (codes "actions") _ _ refl
+    (by (codes "ids") _ _ refl (λ some. cc)))))))))))))))
   where
     by : (name : Text) (asked others : Option (Command NotationName)) → BeginsPlain name → (is_some others ≡ true → BeginsPlain word)
         → is_some (if bytes_eq word name then asked else others) ≡ true → BeginsPlain word

@@ -62,19 +62,21 @@ abbrev flag_row : Text → Bool → Option Row
 flag_row name true = Some (given_row (flag name) (codes "true"))
 flag_row name false = None
 
-abbrev values : Text → GivenOptions → (lines each : Option Row) → Named
-values first options lines each =
+abbrev values : Text → GivenOptions → (lines each text : Option Row) → Named
+values first options lines each text =
     (codes "command", Some (given_row command first)) ∷ option_row (codes "from") options.from ∷ option_row (codes "to") options.to
     ∷ option_row (codes "game") options.game ∷ option_row (codes "seed") options.seed ∷ option_row (codes "hands") options.hands
     ∷ option_row (codes "seat") options.seat ∷ option_row (codes "hand") options.hand ∷ option_row (codes "after") options.after
     ∷ option_row (codes "street") options.street ∷ option_row (codes "with") options.other_file
-    ∷ option_row (codes "as") options.other_notation ∷ (codes "lines", lines) ∷ (codes "each", each) ∷ []
+    ∷ option_row (codes "as") options.other_notation ∷ (codes "lines", lines) ∷ (codes "each", each)
+    ∷ (codes "text", text) ∷ []
 
 abbrev named : Text → GivenOptions → Named
 named first options =
     (codes "drop-notes", flag_row (codes "drop-notes") options.drops_notes)
     ∷ (codes "no-notes", flag_row (codes "no-notes") options.ignores_notes)
     ∷ values first options (flag_row (codes "lines") options.shows_lines) (flag_row (codes "each") options.asks_each)
+    (flag_row (codes "text") options.shows_texts)
 
 -- A walk that is between options, with the rows of a command's word and of some options.
 record IsAt (walk : Walk) (first : Text) (options : GivenOptions) : Type 0 where
@@ -391,6 +393,20 @@ each_set options off = record {
     empty : (first : Text) (rows : List Row) → Hold (named first options) rows → row_named (codes "each") rows ≡ None
     empty first rows held = held.1.1.1.1.1.1.1.1.1.1.1.1.1.1.1.0 ∙ ap (flag_row (codes "each")) off
 
+text_set : (options : GivenOptions) → options.shows_texts ≡ false → IsSet options (codes "text") (record options { shows_texts = true })
+unfolding clap_on_literals
+text_set options off = record {
+  argument = flag (codes "text");
+  stands = record { by_name = refl; takes = refl; once = flag_once (codes "text") };
+  empty = empty;
+  held = λ first rows held.
+      rw (flag_last (codes "text") rows (empty first rows held))
+      (hold_given (named first options) rows (given_row (flag (codes "text")) (codes "true")) (empty first rows held) held);
+}
+  where
+    empty : (first : Text) (rows : List Row) → Hold (named first options) rows → row_named (codes "text") rows ≡ None
+    empty first rows held = held.1.1.1.1.1.1.1.1.1.1.1.1.1.1.1.1.0 ∙ ap (flag_row (codes "text")) off
+
 -- a flag is this one, or one of the others
 either_flag : (options more taken : GivenOptions) (name own : Text) (stood : Bool) (others : Option GivenOptions) (is : Bool)
     → Decides is (name ≡ own) → (stood ≡ false → IsSet options own taken) → (others ≡ Some more → IsSet options name more)
@@ -406,7 +422,8 @@ is_set options more name e =
     by (codes "drop-notes") options.drops_notes _ _ (drop_notes_set options)
     (by (codes "no-notes") options.ignores_notes _ _ (no_notes_set options)
     (by (codes "lines") options.shows_lines _ _ (lines_set options)
-    (by (codes "each") options.asks_each _ _ (each_set options) (λ none. cc)))) e
+    (by (codes "each") options.asks_each _ _ (each_set options)
+    (by (codes "text") options.shows_texts _ _ (text_set options) (λ none. cc))))) e
   where
     by : (own : Text) (stood : Bool) (taken : GivenOptions) (others : Option GivenOptions) → (stood ≡ false → IsSet options own taken)
         → (others ≡ Some more → IsSet options name more) → (if bytes_eq name own && not stood then Some taken else others) ≡ Some more
@@ -501,7 +518,7 @@ begins word plain =
     (record {
       rows = used command (word ∷ []) [];
       between = first arguments (walk_from nothing_held) [] word command begin refl plain refl refl refl refl refl refl;
-      held = (refl, (refl, (refl, (refl, (refl, (refl, (refl, (refl, (refl, (refl, (refl, (refl, (refl, (refl, (refl, (refl, _))))))))))))))));
+      held = (refl, (refl, (refl, (refl, (refl, (refl, (refl, (refl, (refl, (refl, (refl, (refl, (refl, (refl, (refl, (refl, (refl, _)))))))))))))))));
     })
 
 -- a walk over all words of a command
@@ -545,44 +562,51 @@ no_defaults [] rows none = refl
 no_defaults (argument ∷ rules) rows none =
     ap (λ (some : List Row). fold with_default some rules) (no_default argument rows none.0) ∙ no_defaults rules rows none.1
 
--- if the others have no defaults, only the defaults of these four arguments are added
-four_defaults : (before : List Rule) (argument other third fourth : Rule) (after : List Rule) (rows : List Row) → HaveNoDefaults before → HaveNoDefaults after
-    → fold with_default rows (before ++ argument ∷ other ∷ third ∷ fourth ∷ after) ≡ with_default (with_default (with_default (with_default rows argument) other) third) fourth
-four_defaults [] argument other third fourth after rows none_before none_after =
-    no_defaults after (with_default (with_default (with_default (with_default rows argument) other) third) fourth) none_after
-four_defaults (rule ∷ before) argument other third fourth after rows none_before none_after =
-    ap (λ (some : List Row). fold with_default some (before ++ argument ∷ other ∷ third ∷ fourth ∷ after)) (no_default rule rows none_before.0)
-    ∙ four_defaults before argument other third fourth after rows none_before.1 none_after
+-- if the others have no defaults, only the defaults of these five arguments are added
+five_defaults : (before : List Rule) (argument other third fourth fifth : Rule) (after : List Rule) (rows : List Row) → HaveNoDefaults before → HaveNoDefaults after
+    → fold with_default rows (before ++ argument ∷ other ∷ third ∷ fourth ∷ fifth ∷ after)
+    ≡ with_default (with_default (with_default (with_default (with_default rows argument) other) third) fourth) fifth
+five_defaults [] argument other third fourth fifth after rows none_before none_after =
+    no_defaults after (with_default (with_default (with_default (with_default (with_default rows argument) other) third) fourth) fifth) none_after
+five_defaults (rule ∷ before) argument other third fourth fifth after rows none_before none_after =
+    ap (λ (some : List Row). fold with_default some (before ++ argument ∷ other ∷ third ∷ fourth ∷ fifth ∷ after)) (no_default rule rows none_before.0)
+    ∙ five_defaults before argument other third fourth fifth after rows none_before.1 none_after
 
 -- a flag's row at the end: its default if it was not given
 abbrev last_flag_row : Text → Bool → Row
 last_flag_row name true = given_row (flag name) (codes "true")
 last_flag_row name false = row_of (flag name) DefaultValue (codes "false")
 
--- what is found if the first flag is settled, if the first two are, if the first three are, and if
--- all are
+-- what is found if the first flag is settled, if the first two are, the first three, the first four,
+-- and if all are
 abbrev first_settled : Text → GivenOptions → Named
 first_settled first options =
     (codes "drop-notes", Some (last_flag_row (codes "drop-notes") options.drops_notes))
     ∷ (codes "no-notes", flag_row (codes "no-notes") options.ignores_notes)
     ∷ values first options (flag_row (codes "lines") options.shows_lines) (flag_row (codes "each") options.asks_each)
+    (flag_row (codes "text") options.shows_texts)
 
-abbrev notes_settled : Text → GivenOptions → (lines each : Option Row) → Named
-notes_settled first options lines each =
+abbrev notes_settled : Text → GivenOptions → (lines each text : Option Row) → Named
+notes_settled first options lines each text =
     (codes "drop-notes", Some (last_flag_row (codes "drop-notes") options.drops_notes))
-    ∷ (codes "no-notes", Some (last_flag_row (codes "no-notes") options.ignores_notes)) ∷ values first options lines each
+    ∷ (codes "no-notes", Some (last_flag_row (codes "no-notes") options.ignores_notes)) ∷ values first options lines each text
 
 abbrev both_settled : Text → GivenOptions → Named
 both_settled first options =
-    notes_settled first options (flag_row (codes "lines") options.shows_lines) (flag_row (codes "each") options.asks_each)
+    notes_settled first options (flag_row (codes "lines") options.shows_lines) (flag_row (codes "each") options.asks_each) (flag_row (codes "text") options.shows_texts)
 
 abbrev three_settled : Text → GivenOptions → Named
 three_settled first options =
-    notes_settled first options (Some (last_flag_row (codes "lines") options.shows_lines)) (flag_row (codes "each") options.asks_each)
+    notes_settled first options (Some (last_flag_row (codes "lines") options.shows_lines)) (flag_row (codes "each") options.asks_each) (flag_row (codes "text") options.shows_texts)
+
+abbrev four_settled : Text → GivenOptions → Named
+four_settled first options =
+    notes_settled first options (Some (last_flag_row (codes "lines") options.shows_lines)) (Some (last_flag_row (codes "each") options.asks_each)) (flag_row (codes "text") options.shows_texts)
 
 abbrev all_settled : Text → GivenOptions → Named
 all_settled first options =
     notes_settled first options (Some (last_flag_row (codes "lines") options.shows_lines)) (Some (last_flag_row (codes "each") options.asks_each))
+    (Some (last_flag_row (codes "text") options.shows_texts))
 
 drop_notes_settled : (first : Text) (options : GivenOptions) (rows : List Row) → Hold (named first options) rows
     → Hold (first_settled first options) (with_default rows (flag (codes "drop-notes")))
@@ -593,6 +617,7 @@ drop_notes_settled first options rows held = go options.drops_notes held
     others =
         (codes "no-notes", flag_row (codes "no-notes") options.ignores_notes)
         ∷ values first options (flag_row (codes "lines") options.shows_lines) (flag_row (codes "each") options.asks_each)
+        (flag_row (codes "text") options.shows_texts)
 
     go : (b : Bool) → Hold ((codes "drop-notes", flag_row (codes "drop-notes") b) ∷ others) rows
         → Hold ((codes "drop-notes", Some (last_flag_row (codes "drop-notes") b)) ∷ others) (with_default rows (flag (codes "drop-notes")))
@@ -615,6 +640,7 @@ no_notes_settled first options rows held = go options.ignores_notes held
 
     others : Named
     others = values first options (flag_row (codes "lines") options.shows_lines) (flag_row (codes "each") options.asks_each)
+        (flag_row (codes "text") options.shows_texts)
 
     go : (b : Bool) → Hold (before ∷ (codes "no-notes", flag_row (codes "no-notes") b) ∷ others) rows
         → Hold (before ∷ (codes "no-notes", Some (last_flag_row (codes "no-notes") b)) ∷ others)
@@ -634,7 +660,7 @@ unfolding clap_on_literals
 lines_settled first options rows held = go options.shows_lines held
   where
     settled : Option Row → Named
-    settled lines = notes_settled first options lines (flag_row (codes "each") options.asks_each)
+    settled lines = notes_settled first options lines (flag_row (codes "each") options.asks_each) (flag_row (codes "text") options.shows_texts)
 
     go : (b : Bool) → Hold (settled (flag_row (codes "lines") b)) rows
         → Hold (settled (Some (last_flag_row (codes "lines") b))) (with_default rows (flag (codes "lines")))
@@ -648,12 +674,12 @@ lines_settled first options rows held = go options.shows_lines held
         (hold_given (settled None) rows row held.1.1.1.1.1.1.1.1.1.1.1.1.1.1.0 held)
 
 each_settled : (first : Text) (options : GivenOptions) (rows : List Row) → Hold (three_settled first options) rows
-    → Hold (all_settled first options) (with_default rows (flag (codes "each")))
+    → Hold (four_settled first options) (with_default rows (flag (codes "each")))
 unfolding clap_on_literals
 each_settled first options rows held = go options.asks_each held
   where
     settled : Option Row → Named
-    settled each = notes_settled first options (Some (last_flag_row (codes "lines") options.shows_lines)) each
+    settled each = notes_settled first options (Some (last_flag_row (codes "lines") options.shows_lines)) each (flag_row (codes "text") options.shows_texts)
 
     go : (b : Bool) → Hold (settled (flag_row (codes "each") b)) rows
         → Hold (settled (Some (last_flag_row (codes "each") b))) (with_default rows (flag (codes "each")))
@@ -665,6 +691,25 @@ each_settled first options rows held = go options.asks_each held
         let row = last_flag_row (codes "each") false in
         rw (none, at_row-end (codes "each") (more_values DefaultValue (codes "false" ∷ [])) (row ∷ []) rows held.1.1.1.1.1.1.1.1.1.1.1.1.1.1.1.0)
         (hold_given (settled None) rows row held.1.1.1.1.1.1.1.1.1.1.1.1.1.1.1.0 held)
+
+text_settled : (first : Text) (options : GivenOptions) (rows : List Row) → Hold (four_settled first options) rows
+    → Hold (all_settled first options) (with_default rows (flag (codes "text")))
+unfolding clap_on_literals
+text_settled first options rows held = go options.shows_texts held
+  where
+    settled : Option Row → Named
+    settled text = notes_settled first options (Some (last_flag_row (codes "lines") options.shows_lines)) (Some (last_flag_row (codes "each") options.asks_each)) text
+
+    go : (b : Bool) → Hold (settled (flag_row (codes "text") b)) rows
+        → Hold (settled (Some (last_flag_row (codes "text") b))) (with_default rows (flag (codes "text")))
+    go true held =
+        let some : has_row (codes "text") rows ≡ true = has_row-named (codes "text") rows ∙ ap is_some held.1.1.1.1.1.1.1.1.1.1.1.1.1.1.1.1.0 in
+        rw some held
+    go false held =
+        let none : has_row (codes "text") rows ≡ false = has_row-named (codes "text") rows ∙ ap is_some held.1.1.1.1.1.1.1.1.1.1.1.1.1.1.1.1.0 in
+        let row = last_flag_row (codes "text") false in
+        rw (none, at_row-end (codes "text") (more_values DefaultValue (codes "false" ∷ [])) (row ∷ []) rows held.1.1.1.1.1.1.1.1.1.1.1.1.1.1.1.1.0)
+        (hold_given (settled None) rows row held.1.1.1.1.1.1.1.1.1.1.1.1.1.1.1.1.0 held)
 
 -- what the parser finds in a first word that does not begin with a hyphen, and in the options after
 -- it
@@ -685,6 +730,7 @@ pub record IsFound (first : Text) (options : GivenOptions) (rows : List Row) : T
   pub ignores_notes : one_of (codes "no-notes") rows ≡ Some (flag_text options.ignores_notes)
   pub shows_lines : one_of (codes "lines") rows ≡ Some (flag_text options.shows_lines)
   pub asks_each : one_of (codes "each") rows ≡ Some (flag_text options.asks_each)
+  pub shows_texts : one_of (codes "text") rows ≡ Some (flag_text options.shows_texts)
 
 value_of_row : (argument : Rule) (value : Option Text) → option_and_then (λ (row : Row). slice_get row.values 0) (option_map (given_row argument) value) ≡ value
 value_of_row argument None = refl
@@ -717,21 +763,24 @@ found_in first options rows held = record {
   ignores_notes = ap (option_and_then row_text) held.1.0 ∙ text_of_flag (codes "no-notes") options.ignores_notes;
   shows_lines = ap (option_and_then row_text) held.1.1.1.1.1.1.1.1.1.1.1.1.1.1.0 ∙ text_of_flag (codes "lines") options.shows_lines;
   asks_each = ap (option_and_then row_text) held.1.1.1.1.1.1.1.1.1.1.1.1.1.1.1.0 ∙ text_of_flag (codes "each") options.asks_each;
+  shows_texts = ap (option_and_then row_text) held.1.1.1.1.1.1.1.1.1.1.1.1.1.1.1.1.0 ∙ text_of_flag (codes "text") options.shows_texts;
 }
 
 -- the rows if all defaults are added
 abbrev with_defaults : List Row → List Row
 with_defaults rows =
-    with_default (with_default (with_default (with_default rows (flag (codes "drop-notes"))) (flag (codes "no-notes"))) (flag (codes "lines")))
-    (flag (codes "each"))
+    with_default
+    (with_default (with_default (with_default (with_default rows (flag (codes "drop-notes"))) (flag (codes "no-notes"))) (flag (codes "lines")))
+    (flag (codes "each")))
+    (flag (codes "text"))
 
-four_have_defaults : (rows : List Row) → fold with_default rows arguments ≡ with_defaults rows
+five_have_defaults : (rows : List Row) → fold with_default rows arguments ≡ with_defaults rows
 unfolding clap_on_literals
-four_have_defaults rows = four_defaults
+five_have_defaults rows = five_defaults
     (command ∷ option (codes "from") ∷ option (codes "to") ∷ option (codes "game") ∷ option (codes "seed") ∷ option (codes "hands")
     ∷ option (codes "seat") ∷ option (codes "hand") ∷ option (codes "after") ∷ option (codes "street") ∷ option (codes "with")
     ∷ option (codes "as") ∷ [])
-    (flag (codes "drop-notes")) (flag (codes "no-notes")) (flag (codes "lines")) (flag (codes "each")) (filled help_rule ∷ []) rows
+    (flag (codes "drop-notes")) (flag (codes "no-notes")) (flag (codes "lines")) (flag (codes "each")) (flag (codes "text")) (filled help_rule ∷ []) rows
     (refl, (refl, (refl, (refl, (refl, (refl, (refl, (refl, (refl, (refl, (refl, (refl, _)))))))))))) (refl, _)
 
 pub finds : (word : Text) (words : List Text) (options : GivenOptions) → strip_byte 45 word ≡ None → options_said no_options words ≡ Some options
@@ -740,9 +789,12 @@ unfolding rows_found
 finds word words options plain said =
     let at = (whole word words options plain said).at in
     let rows : rows_found (word ∷ words) ≡ with_defaults at.rows =
-    ap (λ (some : List Row). fold with_default some arguments) at.between.rows ∙ four_have_defaults at.rows in
+    ap (λ (some : List Row). fold with_default some arguments) at.between.rows ∙ five_have_defaults at.rows in
     let dropped = with_default at.rows (flag (codes "drop-notes")) in
     let ignored = with_default dropped (flag (codes "no-notes")) in
     let held = no_notes_settled word options dropped (drop_notes_settled word options at.rows at.held) in
     let lined = with_default ignored (flag (codes "lines")) in
-    rw rows (found_in word options (with_defaults at.rows) (each_settled word options lined (lines_settled word options ignored held)))
+    let each = with_default lined (flag (codes "each")) in
+    rw rows
+    (found_in word options (with_defaults at.rows)
+    (text_settled word options each (each_settled word options lined (lines_settled word options ignored held))))

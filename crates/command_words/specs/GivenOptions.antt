@@ -37,6 +37,8 @@ pub record GivenOptions : Type 0 where
   pub shows_lines : Bool
   -- --each: each hand is answered by itself, whether or not others are legal
   pub asks_each : Bool
+  -- --text: texts are asked for in place of their digests
+  pub shows_texts : Bool
 
 -- no options
 abbrev pub no_options : GivenOptions
@@ -56,6 +58,7 @@ no_options = record {
   ignores_notes = false;
   shows_lines = false;
   asks_each = false;
+  shows_texts = false;
 }
 
 -- An option with a value: its name, the value that is given, and the options with another value.
@@ -117,7 +120,8 @@ flags =
     as_flag (codes "drop-notes") (λ it. it.drops_notes) (λ it. record it { drops_notes = true })
     ∷ as_flag (codes "no-notes") (λ it. it.ignores_notes) (λ it. record it { ignores_notes = true })
     ∷ as_flag (codes "lines") (λ it. it.shows_lines) (λ it. record it { shows_lines = true })
-    ∷ as_flag (codes "each") (λ it. it.asks_each) (λ it. record it { asks_each = true }) ∷ []
+    ∷ as_flag (codes "each") (λ it. it.asks_each) (λ it. record it { asks_each = true })
+    ∷ as_flag (codes "text") (λ it. it.shows_texts) (λ it. record it { shows_texts = true }) ∷ []
 
 -- ---- what is given
 

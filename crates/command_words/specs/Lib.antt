@@ -16,6 +16,9 @@ pub mod Options
 pub mod Equity
 pub mod Judge
 pub mod Compare
+pub mod Seats
+pub mod Actions
+pub mod Ids
 pub mod Words
 pub mod Requests
 pub mod Parser

@@ -31,7 +31,7 @@ handref = fold with_rule without_own_name (new_rule (codes "command")
     ∷ option_rule (codes "hand") ∷ option_rule (codes "after") ∷ option_rule (codes "street")
     ∷ option_rule (codes "with") ∷ option_rule (codes "as")
     ∷ flag_rule (codes "drop-notes") ∷ flag_rule (codes "no-notes")
-    ∷ flag_rule (codes "lines") ∷ flag_rule (codes "each") ∷ [])
+    ∷ flag_rule (codes "lines") ∷ flag_rule (codes "each") ∷ flag_rule (codes "text") ∷ [])
 
 -- the parser takes the words: it fails only if memory runs out
 unfoldable pub are_taken : List Text → Bool

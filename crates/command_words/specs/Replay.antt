@@ -1,8 +1,8 @@
 -- What the words of `replay` ask for.
-use Rattle.std.specs.Prelude.{Bool, if◌then◌else◌, false, Option, None, option_map}
-use Rattle.command_words.specs.GivenOptions.{GivenOptions, no_option_given}
-use Rattle.command_words.specs.Notations.{notation_named}
+use Rattle.std.specs.Prelude.{Bool, if◌then◌else◌, Option, option_map}
+use Rattle.command_words.specs.GivenOptions.{GivenOptions}
 use Rattle.command_words.specs.Command.{Command, about}
+use Rattle.command_words.specs.Request.{input_of_each}
 use Rattle.command_words.specs.declared.command.EachQuestion.TheVariants as of_each
 use Rattle.command_words.specs.declared.command.Question.{Question}
 use Rattle.command_words.specs.declared.command.Question.TheVariants as questions
@@ -15,6 +15,4 @@ replay_of each = if each then questions.Each of_each.Replay else questions.Repla
 -- `replay` takes --from, --game for logs, and --each
 abbrev pub replay_asked : GivenOptions → Option (Command NotationName)
 replay_asked options =
-    if no_option_given (record options { from = None; game = None; asks_each = false })
-    then option_map (about (replay_of options.asks_each)) (notation_named options.from)
-    else None
+    option_map (about (replay_of options.asks_each)) (input_of_each options)

@@ -1,5 +1,5 @@
 -- What a command line asks for: a command, with its game file.
-use Rattle.std.specs.Prelude.{ℕ, if◌then◌else◌, List, [], ◌∷◌, Option, Some, None, option_map}
+use Rattle.std.specs.Prelude.{ℕ, false, if◌then◌else◌, List, [], ◌∷◌, Option, Some, None, option_map}
 use Rattle.command_words.specs.Command.{Command, is_about_logs, plain_command}
 use Rattle.command_words.specs.GivenOptions.{GivenOptions, no_option_given}
 use Rattle.command_words.specs.Notations.{notation_named}
@@ -26,3 +26,7 @@ input_alone options =
     if no_option_given (record options { from = None; game = None })
     then notation_named options.from
     else None
+
+-- the notation of the input, if no option is given but --from, --game and --each
+abbrev pub input_of_each : GivenOptions → Option NotationName
+input_of_each options = input_alone (record options { asks_each = false })

@@ -31,6 +31,7 @@ options_in options = record {
   ignores_notes = options.ignores_notes;
   shows_lines = options.shows_lines;
   asks_each = options.asks_each;
+  shows_texts = options.shows_texts;
 }
 
 -- the name of the other file; empty if none is given
@@ -68,6 +69,7 @@ pub record AreFound (found : Found) (options : words.GivenOptions) : Type 0 wher
   pub ignores_notes : one_text found (codes "no-notes") ≡ Some (flag_text options.ignores_notes)
   pub shows_lines : one_text found (codes "lines") ≡ Some (flag_text options.shows_lines)
   pub asks_each : one_text found (codes "each") ≡ Some (flag_text options.asks_each)
+  pub shows_texts : one_text found (codes "text") ≡ Some (flag_text options.shows_texts)
 
 -- What a command line parser found is what the words say: the word of the command, and the options.
 pub record IsSaidBy (said : List (List ℕ)) (found : Found) : Type 0 where

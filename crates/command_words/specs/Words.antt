@@ -2,18 +2,21 @@
 pub use Rattle.command_words.specs.Request.{Plain, Request, Under}
 use Rattle.std.specs.Prelude.{ℕ, if◌then◌else◌, List, [], ◌∷◌, codes, Option, None, option_and_then}
 use Rattle.std.specs.Str.{bytes_eq}
+use Rattle.command_words.specs.Actions.{actions_asked}
 use Rattle.command_words.specs.Check.{check_asked}
 use Rattle.command_words.specs.Compare.{comparison_asked}
 use Rattle.command_words.specs.Convert.{conversion_asked}
 use Rattle.command_words.specs.Equity.{equity_asked}
 use Rattle.command_words.specs.Game.{game_asked}
 use Rattle.command_words.specs.GivenOptions.{GivenOptions, no_options, options_said}
+use Rattle.command_words.specs.Ids.{ids_asked}
 use Rattle.command_words.specs.Judge.{judge_asked}
 use Rattle.command_words.specs.Load.{load_asked}
 use Rattle.command_words.specs.Options.{options_asked}
 use Rattle.command_words.specs.Replay.{replay_asked}
 use Rattle.command_words.specs.Request.{under_game}
 use Rattle.command_words.specs.Report.{report_asked}
+use Rattle.command_words.specs.Seats.{seats_asked}
 use Rattle.command_words.specs.Session.{session_asked}
 use Rattle.command_words.specs.Views.{views_asked}
 use Rattle.command_words.specs.Command.{Command}
@@ -34,6 +37,9 @@ command_by word options =
     else if bytes_eq word (codes "equity") then equity_asked options
     else if bytes_eq word (codes "judge") then judge_asked options
     else if bytes_eq word (codes "compare") then comparison_asked options
+    else if bytes_eq word (codes "seats") then seats_asked options
+    else if bytes_eq word (codes "actions") then actions_asked options
+    else if bytes_eq word (codes "ids") then ids_asked options
     else None
 
 -- what the word of a command asks for with these options

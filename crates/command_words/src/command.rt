@@ -50,6 +50,12 @@ pub enum Question {
     Judge { lines: bool },
     /// The messages that a seat received in the hands of a log.
     Views { seat: Seat },
+    /// A table with a row for each seat of each hand.
+    Seats,
+    /// A table with a row for each move of each hand.
+    Actions,
+    /// The identifiers of each hand; `text` asks for the texts that they are made of.
+    Ids { text: bool },
     /// What hands answer each by itself.
     Each(EachQuestion),
 }
@@ -64,6 +70,12 @@ pub enum EachQuestion {
     EveryPoint { hand: u32 },
     /// The legal moves after the first `events` events of a hand.
     Point { hand: u32, events: u32 },
+    /// The table of seats, without the refused hands.
+    Seats,
+    /// The table of moves, of a refused hand up to its refused event.
+    Actions,
+    /// The identifiers of the legal hands; `text` asks for the texts that they are made of.
+    Ids { text: bool },
 }
 
 impl<N> Command<N> {

@@ -37,6 +37,8 @@ pub struct GivenOptions<'a> {
     pub shows_lines: bool,
     /// Whether each hand is answered by itself, whether or not others are legal.
     pub asks_each: bool,
+    /// Whether texts are asked for in place of their digests.
+    pub shows_texts: bool,
 }
 
 /// The options that the words say, or `None` if one is unknown or repeated.
@@ -60,6 +62,7 @@ pub fn read_options(words: &[String]) -> Option<GivenOptions<'_>>
         ignores_notes: false,
         shows_lines: false,
         asks_each: false,
+        shows_texts: false,
     };
     let mut rest = words;
     while let Some((word, behind)) = rest.split_first() {
@@ -204,7 +207,11 @@ fn add_other<'a>(options: GivenOptions<'a>, name: &str, value: &'a str) -> Optio
 fn takes_no_value(name: &str) -> bool
     ensures { result ≡ names_flag name.now }
 {
-    name == "drop-notes" || name == "no-notes" || name == "lines" || name == "each"
+    name == "drop-notes"
+        || name == "no-notes"
+        || name == "lines"
+        || name == "each"
+        || name == "text"
 }
 
 // The options with the flag of this name, if it is not given yet.
@@ -227,6 +234,10 @@ fn add_flag<'a>(options: GivenOptions<'a>, name: &str) -> Option<GivenOptions<'a
         }),
         "each" if !options.asks_each => Some(GivenOptions {
             asks_each: true,
+            ..options
+        }),
+        "text" if !options.shows_texts => Some(GivenOptions {
+            shows_texts: true,
             ..options
         }),
         _ => None,
@@ -279,5 +290,9 @@ fn has_no_other(options: GivenOptions<'_>) -> bool
 fn has_no_flags(options: GivenOptions<'_>) -> bool
     ensures { result ≡ no_flag_given (options_in options.entry) }
 {
-    !options.drops_notes && !options.ignores_notes && !options.shows_lines && !options.asks_each
+    !options.drops_notes
+        && !options.ignores_notes
+        && !options.shows_lines
+        && !options.asks_each
+        && !options.shows_texts
 }

@@ -1,6 +1,7 @@
 //! Turns the words of a command line into a request, or says that they are no command.
 #![tactic(auto)]
 
+mod actions;
 mod check;
 mod command;
 mod compare;
@@ -9,6 +10,7 @@ mod equity;
 mod game;
 mod given_options;
 mod hand_count;
+mod ids;
 mod judge;
 mod load;
 mod log_command;
@@ -19,6 +21,7 @@ mod reading;
 mod replay;
 mod report;
 mod request;
+mod seats;
 mod session;
 mod views;
 mod words;

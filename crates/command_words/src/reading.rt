@@ -78,7 +78,8 @@ fn parser<'a>(alloc: Global) -> Result<clap::Command<'a>, Memory>
         .try_arg(flag(alloc, "drop-notes"))?
         .try_arg(flag(alloc, "no-notes"))?
         .try_arg(flag(alloc, "lines"))?
-        .try_arg(flag(alloc, "each"))
+        .try_arg(flag(alloc, "each"))?
+        .try_arg(flag(alloc, "text"))
 }
 
 // An option of this name.
@@ -117,5 +118,6 @@ fn options_found<'a>(matches: &ArgMatches<'a>) -> GivenOptions<'a>
         ignores_notes: matches.get_flag("no-notes"),
         shows_lines: matches.get_flag("lines"),
         asks_each: matches.get_flag("each"),
+        shows_texts: matches.get_flag("text"),
     }
 }

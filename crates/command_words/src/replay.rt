@@ -5,8 +5,9 @@ ghost use Rattle.command_words.specs.Requests.{file_given, options_in};
 ghost use Rattle.command_words.specs.Replay.{replay_asked, replay_of};
 
 use crate::command::{Ask, Command, EachQuestion, Question};
-use crate::given_options::{GivenOptions, has_no_options};
-use crate::notation::{NotationName, parse_given_notation};
+use crate::given_options::GivenOptions;
+use crate::notation::NotationName;
+use crate::request::parse_notation_of_each;
 
 /// What `replay` asks for with these options, which are the notation, the game, and whether each
 /// hand is answered by itself.
@@ -14,16 +15,7 @@ pub fn command(options: GivenOptions<'_>) -> Option<Command<NotationName>>
     ensures { option_map (command_in (file_given (options_in options.entry))) result
         ≡ replay_asked (options_in options.entry) }
 {
-    let others = GivenOptions {
-        from: None,
-        game: None,
-        asks_each: false,
-        ..options
-    };
-    if !has_no_options(others) {
-        return None;
-    }
-    let from = parse_given_notation(options.from)?;
+    let from = parse_notation_of_each(options)?;
     let ask = Ask::About(ask_for_replay(options.asks_each));
     Some(Command::Hands { from, ask })
 }

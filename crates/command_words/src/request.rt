@@ -2,7 +2,7 @@
 ghost use Rattle.std.specs.Prelude.{◌≡◌, [], option_map, unwrap_or};
 ghost use Rattle.command_words.specs.Command.{command_in};
 ghost use Rattle.command_words.specs.Requests.{options_in, request_in};
-ghost use Rattle.command_words.specs.Request.{input_alone, under_game};
+ghost use Rattle.command_words.specs.Request.{input_alone, input_of_each, under_game};
 
 use crate::command::Command;
 use crate::given_options::{GivenOptions, has_no_options};
@@ -64,4 +64,14 @@ pub fn parse_notation_alone(options: GivenOptions<'_>) -> Option<NotationName>
         return None;
     }
     parse_given_notation(options.from)
+}
+
+/// The notation of the input, if no option is given but it, the game file and `--each`.
+pub fn parse_notation_of_each(options: GivenOptions<'_>) -> Option<NotationName>
+    ensures { result ≡ input_of_each (options_in options.entry) }
+{
+    parse_notation_alone(GivenOptions {
+        asks_each: false,
+        ..options
+    })
 }

@@ -9,7 +9,8 @@ use crate::given_options::GivenOptions;
 use crate::notation::NotationName;
 use crate::request::{Request, new_request};
 use crate::{
-    check, compare, convert, equity, game, judge, load, options, replay, report, session, views,
+    actions, check, compare, convert, equity, game, ids, judge, load, options, replay, report,
+    seats, session, views,
 };
 
 /// What the word of a command asks for with these options, or `None` if that is no command.
@@ -38,6 +39,9 @@ fn command_of(word: &str, given: GivenOptions<'_>) -> Option<Command<NotationNam
         "equity" => equity::command(given),
         "judge" => judge::command(given),
         "compare" => compare::command(given),
+        "seats" => seats::command(given),
+        "actions" => actions::command(given),
+        "ids" => ids::command(given),
         _ => None,
     }
 }

@@ -23,6 +23,7 @@ returns c options found =
       ignores options.ignores_notes found.ignores_notes,
       shows options.shows_lines found.shows_lines,
       asks options.asks_each found.asks_each,
+      texts options.shows_texts found.shows_texts,
     ) refl
   where
     drops : (b : Bool) → one_text (found_of c.args.matches.now) (codes "drop-notes") ≡ Some (flag_text b) → c.get_flag.result ≡ b
@@ -40,3 +41,7 @@ returns c options found =
     asks : (b : Bool) → one_text (found_of c.args.matches.now) (codes "each") ≡ Some (flag_text b) → c.get_flag-4.result ≡ b
     asks true e = c.get_flag-4.ensures.value e
     asks false e = c.get_flag-4.ensures.other e
+
+    texts : (b : Bool) → one_text (found_of c.args.matches.now) (codes "text") ≡ Some (flag_text b) → c.get_flag-5.result ≡ b
+    texts true e = c.get_flag-5.ensures.value e
+    texts false e = c.get_flag-5.ensures.other e

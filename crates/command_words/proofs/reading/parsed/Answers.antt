@@ -77,5 +77,6 @@ returns-clause-said c =
         ignores_notes = text (codes "no-notes") ∙ of_words.found.ignores_notes;
         shows_lines = text (codes "lines") ∙ of_words.found.shows_lines;
         asks_each = text (codes "each") ∙ of_words.found.asks_each;
+        shows_texts = text (codes "text") ∙ of_words.found.shows_texts;
       };
     })) c.matches_of.ensures.found

@@ -30,5 +30,6 @@ returns c =
     let thirteen = c.in_ok-try_arg-13.ensures.shape c.flag.ensures.local ∙ ap₂ with_rule twelve c.flag.ensures.rule in
     let fourteen = c.in_ok-try_arg-14.ensures.shape c.flag-2.ensures.local ∙ ap₂ with_rule thirteen c.flag-2.ensures.rule in
     let fifteen = c.in_ok-try_arg-15.ensures.shape c.flag-3.ensures.local ∙ ap₂ with_rule fourteen c.flag-3.ensures.rule in
-    IfOk-weaker c.try_arg-16.result _ _
-    (λ parser adds. adds.shape c.flag-4.ensures.local ∙ ap₂ with_rule fifteen c.flag-4.ensures.rule) c.try_arg-16.ensures
+    let sixteen = c.in_ok-try_arg-16.ensures.shape c.flag-4.ensures.local ∙ ap₂ with_rule fifteen c.flag-4.ensures.rule in
+    IfOk-weaker c.try_arg-17.result _ _
+    (λ parser adds. adds.shape c.flag-5.ensures.local ∙ ap₂ with_rule sixteen c.flag-5.ensures.rule) c.try_arg-17.ensures

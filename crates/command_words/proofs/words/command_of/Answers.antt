@@ -19,4 +19,7 @@ returns-in_default c =
       different_bytes word (codes "equity") c.in_default.not-equity,
       different_bytes word (codes "judge") c.in_default.not-judge,
       different_bytes word (codes "compare") c.in_default.not-compare,
+      different_bytes word (codes "seats") c.in_default.not-seats,
+      different_bytes word (codes "actions") c.in_default.not-actions,
+      different_bytes word (codes "ids") c.in_default.not-ids,
     ) refl
