@@ -86,7 +86,7 @@ note_said place count a b same =
       zone = same.zone;
     })
 
-hand_same : (place : ℕ) (play other : Play) → ArePlayedAlike play other → AreSameHand (λ notes. notes) place play other
+pub hand_same : (place : ℕ) (play other : Play) → ArePlayedAlike play other → AreSameHand (λ notes. notes) place play other
 hand_same place play other alike =
     record {
       trace = alike.trace;

@@ -1,6 +1,6 @@
 -- Hands that answer each by itself are never refused, and a run ends with NoSuch if what is asked
 -- for is not there.
-use Rattle.std.proofs.Common.{◌≡◌, ◌⊎◌, ℕ, zero, suc, ◌-◌, ◌≤◌, List, [], ◌∷◌, length, Some, refl, sym, subst, inl, inr, arith}
+use Rattle.std.proofs.Common.{◌≡◌, ◌⊎◌, ℕ, zero, suc, ◌-◌, ◌≤◌, List, [], ◌∷◌, length, Some, refl, ap, sym, subst, inl, inr, arith}
 use Rattle.std.specs.List.{slice_get}
 use Rattle.std.proofs.lemmas.Option.{same_Some}
 use Rattle.command_words.specs.Words.{Request}
@@ -89,6 +89,9 @@ found : (question : EachQuestion) (records others : List Record) (answer : Answe
 found of_each.Replay records others answer same is = replayed records others answer is
 found (of_each.EveryPoint hand) records others answer same is = every_point hand records others answer same is
 found (of_each.Point hand events) records others answer same is = at_point hand events records others answer same is
+found of_each.Seats records others answer same is = inl (ap (λ (a : Answer). a.status) is.shown, tt)
+found of_each.Actions records others answer same is = inl (ap (λ (a : Answer). a.status) is.shown, tt)
+found (of_each.Ids text) records others answer same is = inl (ap (λ (a : Answer). a.status) is.shown, tt)
 
 -- so it is for an input that reads as hands
 answered : (question : EachQuestion) (reader : Format) (bytes : List ℕ) (records : List Record) (answer : Answer) → length bytes ≤ most_input

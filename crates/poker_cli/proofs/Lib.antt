@@ -2,6 +2,7 @@
 mod OwnStatus
 mod FilesTold
 mod Answering
+mod HandWriting
 mod AlikeGames
 mod LawfulFormats
 mod JudgedLines
@@ -14,6 +15,7 @@ mod GameLengths
 mod GameReplies
 mod OneReply
 mod OneEach
+mod SameTables
 mod EachHand
 mod ReadAlike
 mod OneComparison

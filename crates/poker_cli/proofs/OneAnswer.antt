@@ -32,7 +32,7 @@ use Rattle.convert_core.specs.declared.format_fault.FormatFault.{FormatFault}
 use Rattle.convert_core.specs.SameRecords.{AllAlike, AreAlike, SayTheSame}
 use Rattle.convert_core.proofs.Conversions.{all_less, same_refusal}
 use Rattle.convert_core.proofs.LawfulNotations.{AreReadSame, no_fault}
-use Rattle.convert_core.proofs.OneConversion.{all_same, IsReadAlike}
+use Rattle.convert_core.proofs.OneConversion.{all_same, IsReadAlike, played_alike}
 use Rattle.convert_core.specs.Conversion.{ReadAsPlays}
 use Rattle.convert_core.proofs.OneOutcome.{AllTraced, same_refused, same_traces}
 use Rattle.poker_cli.specs.Answer.{IsAnswer, IsAnswerBeside, IsAnswerBy, IsAnswerFrom, IsAnswerIn, IsAnswerOf, IsReply}
@@ -69,7 +69,8 @@ use Rattle.poker_cli.specs.Views.{AreMessages}
 use Rattle.poker_cli.proofs.OneReply.{as_many, one_equity, one_options, one_view, same_sessions}
 use Rattle.poker_cli.proofs.OneComparison.{one_compared}
 use Rattle.poker_cli.proofs.ReadAlike.{AllReadSame, AllToldAlike, SayOrFault, one_told, read_the_same, refused_or_played, say_or_fault}
-use Rattle.poker_cli.proofs.OneEach.{one_of_each, same_replay_lines}
+use Rattle.poker_cli.proofs.OneEach.{same_replay_lines}
+use Rattle.poker_cli.proofs.SameTables.{one_actions, one_ids, one_of_each, one_seats}
 use Rattle.poker_cli.proofs.OneJudgement.{same_judged}
 use Rattle.card_set.proofs.NumbersOfRange.{map_agree}
 use Rattle.chip_ledger.specs.SeatsSaid.{default_name}
@@ -191,6 +192,9 @@ one_reply (commands.Hands from (commands.About questions.Session)) ps qs answer 
 one_reply (commands.Hands from (commands.About questions.Game)) ps qs answer other judged traced alike same is it = is.shown ∙ same_game ps qs traced ∙ sym it.shown
 one_reply (commands.Hands from (commands.About (questions.Options hand events))) ps qs answer other judged traced alike same is it = one_options hand events ps qs answer other traced is it
 one_reply (commands.Hands from (commands.About (questions.Equity hand street))) ps qs answer other judged traced alike same is it = one_equity hand street ps qs answer other traced is it
+one_reply (commands.Hands from (commands.About questions.Seats)) ps qs answer other judged traced alike same is it = one_seats ps qs answer other (played_alike ps qs judged traced alike) is it
+one_reply (commands.Hands from (commands.About questions.Actions)) ps qs answer other judged traced alike same is it = one_actions ps qs answer other (played_alike ps qs judged traced alike) is it
+one_reply (commands.Hands from (commands.About (questions.Ids text))) ps qs answer other judged traced alike same is it = one_ids text ps qs answer other (played_alike ps qs judged traced alike) is it
 one_reply (commands.Hands from (commands.About (questions.Judge lines))) ps qs answer other judged traced alike same is it = absurd is
 one_reply (commands.Hands from (commands.About (questions.Each question))) ps qs answer other judged traced alike same is it = absurd is
 one_reply (commands.Hands from (commands.About (questions.Views seat))) ps qs answer other judged traced alike same is it = one_message from seat ps qs answer other traced alike is it
@@ -265,7 +269,7 @@ same_of_each Say HaveFault question answer other alike shown apart (each_said.No
 same_of_each Say HaveFault question answer other alike shown apart (each_said.OfEach records say _ is) (each_said.NotRead fault have _ it) =
     absurd (apart records fault say have)
 same_of_each Say HaveFault question answer other alike shown apart (each_said.OfEach records say _ is) (each_said.OfEach others says _ it) =
-    one_of_each question records others answer other (all_same records others (alike records others say says)) is it
+    one_of_each question records others answer other (alike records others say says) is it
 
 -- what is made of hands counts as one
 one_made : (command : Command Format) → IsOneMade (IsReply command) (AreOneAnswer command)
@@ -379,6 +383,9 @@ shown_status (commands.Hands from (commands.About questions.Check)) plays answer
 shown_status (commands.Hands from (commands.About questions.Replay)) plays answer prints is = ap (λ (a : Answer). a.status) is.made
 shown_status (commands.Hands from (commands.About questions.Report)) plays answer prints is = ap (λ (a : Answer). a.status) is.made
 shown_status (commands.Hands from (commands.About questions.Session)) plays answer prints is = ap (λ (a : Answer). a.status) is.made
+shown_status (commands.Hands from (commands.About questions.Seats)) plays answer prints is = ap (λ (a : Answer). a.status) is.made
+shown_status (commands.Hands from (commands.About questions.Actions)) plays answer prints is = ap (λ (a : Answer). a.status) is.made.shown
+shown_status (commands.Hands from (commands.About (questions.Ids text))) plays answer prints is = ap (λ (a : Answer). a.status) is.made
 shown_status command plays answer prints is = absurd prints
 
 shown_of_plays : (command : Command Format) → PrintsAll command → IsOfPlays command

@@ -4,8 +4,6 @@ use Rattle.std.specs.List.{slice_get}
 use Rattle.std.proofs.lemmas.Bool.{cases_lt}
 use Rattle.std.proofs.lemmas.Option.{same_Some}
 use Rattle.card_set.proofs.Options.{some_is_none}
-use Rattle.command_words.specs.declared.command.EachQuestion.{EachQuestion}
-use Rattle.command_words.specs.declared.command.EachQuestion.TheVariants as of_each
 use Rattle.convert_core.proofs.OneOutcome.{AllTheSame, moved, not_judged, not_legal, one_refusal, one_trace, turned}
 use Rattle.convert_core.specs.SameRecords.{SayTheSame}
 use Rattle.convert_core.specs.declared.refusal.Refusal.{Refusal}
@@ -26,7 +24,7 @@ use Rattle.play_event.specs.declared.setup.Rules.{Rules}
 use Rattle.play_event.specs.declared.setup.Setup.{Setup}
 use Rattle.poker_cli.specs.AnswerParts.{Answer, done, no_hand}
 use Rattle.poker_cli.specs.Each as each
-use Rattle.poker_cli.specs.Each.{AreOwnLines, AreReplayedAlone, AreReplayedEach, HasVerdictAfter, IsEveryPoint, IsPoint, IsReplyOfEach, IsReplayedAlone, IsTextOfPoints, IsVerdictOn, refusal_line}
+use Rattle.poker_cli.specs.Each.{AreOwnLines, AreReplayedAlone, AreReplayedEach, HasVerdictAfter, IsEveryPoint, IsPoint, IsReplayedAlone, IsTextOfPoints, IsVerdictOn, refusal_line}
 use Rattle.poker_cli.specs.Options.{no_event}
 use Rattle.printed_hands.specs.Steps.{begun_lines, replay_lines}
 use Rattle.replay_core.specs.Events.{said_by}
@@ -166,7 +164,7 @@ same_text_of_points number a b text other same is it =
     same_after (AreOptionTexts number a (is.events + 1)) (AreOptionTexts number b (it.events + 1)) number a b text other same
     (λ lines others. same_points number a b (is.events + 1) (it.events + 1) lines others same events) is.said it.said
 
-one_every : (number : ℕ) (records others : List Record) (answer other : Answer) → AllTheSame records others → IsEveryPoint number records answer → IsEveryPoint number others other → answer ≡ other
+pub one_every : (number : ℕ) (records others : List Record) (answer other : Answer) → AllTheSame records others → IsEveryPoint number records answer → IsEveryPoint number others other → answer ≡ other
 one_every number records others _ _ same (each.NoSuchHand none) (each.NoSuchHand nothing) = ap (no_hand number) (as_many_records records others same)
 one_every number records others _ _ same (each.NoSuchHand none) (each.AtPoints b it more too) = absurd (not_there records others (number - 1) b same none it)
 one_every number records others _ _ same (each.AtPoints a is text are) (each.NoSuchHand none) = absurd (not_here records others (number - 1) a same is none)
@@ -174,7 +172,7 @@ one_every number records others _ _ same (each.AtPoints a is text are) (each.AtP
     ap done (same_text_of_points number a b text more (same_at records others (number - 1) a b same is it) are too)
 
 -- and at one point
-one_point : (number events : ℕ) (records others : List Record) (answer other : Answer) → AllTheSame records others → IsPoint number events records answer → IsPoint number events others other → answer ≡ other
+pub one_point : (number events : ℕ) (records others : List Record) (answer other : Answer) → AllTheSame records others → IsPoint number events records answer → IsPoint number events others other → answer ≡ other
 one_point number events records others _ _ same (each.NoHandThere none) (each.NoHandThere nothing) = ap (no_hand number) (as_many_records records others same)
 one_point number events records others _ _ same (each.NoHandThere none) (each.PastLegal b it count begins few) = absurd (not_there records others (number - 1) b same none it)
 one_point number events records others _ _ same (each.NoHandThere none) (each.AtPoint b it count begins few more too) = absurd (not_there records others (number - 1) b same none it)
@@ -189,12 +187,5 @@ one_point number events records others _ _ same (each.AtPoint a is legal beginni
 one_point number events records others _ _ same (each.AtPoint a is legal beginning within options are) (each.AtPoint b it count begins few more too) =
     ap done (same_options number events events a b options more (same_at records others (number - 1) a b same is it) refl are too)
 
-one_replay : (records others : List Record) (answer other : Answer) → AllTheSame records others → AreReplayedEach records answer → AreReplayedEach others other → answer ≡ other
+pub one_replay : (records others : List Record) (answer other : Answer) → AllTheSame records others → AreReplayedEach records answer → AreReplayedEach others other → answer ≡ other
 one_replay records others _ _ same (each.ReplayedEach text are) (each.ReplayedEach more too) = ap done (same_replayed 1 records others text more same are too)
-
--- so each question has one answer
-pub one_of_each : (question : EachQuestion) (records others : List Record) (answer other : Answer) → AllTheSame records others
-    → IsReplyOfEach question records answer → IsReplyOfEach question others other → answer ≡ other
-one_of_each of_each.Replay records others answer other same is it = one_replay records others answer other same is it
-one_of_each (of_each.EveryPoint hand) records others answer other same is it = one_every hand records others answer other same is it
-one_of_each (of_each.Point hand events) records others answer other same is it = one_point hand events records others answer other same is it

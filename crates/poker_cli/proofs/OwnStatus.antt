@@ -121,6 +121,7 @@ reply_own : (command : Command Format) (plays : List Play) (answer : Answer) →
 reply_own (commands.Hands from (commands.About questions.Game)) plays answer is = same_own answer _ is.shown (first_game_own plays)
 reply_own (commands.Hands from (commands.About (questions.Options hand events))) plays answer is = options_own hand events plays answer is
 reply_own (commands.Hands from (commands.About (questions.Equity hand street))) plays answer is = equity_own hand street plays answer is
+reply_own (commands.Hands from (commands.About questions.Actions)) plays answer is = same_own answer _ is.shown tt
 reply_own (commands.Hands from (commands.About (questions.Judge lines))) plays answer is = absurd is
 reply_own (commands.Hands from (commands.About (questions.Each question))) plays answer is = absurd is
 reply_own (commands.Load seed hands) plays answer is = absurd is
@@ -158,6 +159,9 @@ of_each_own : (question : EachQuestion) (records : List Record) (answer : Answer
 of_each_own of_each.Replay records answer is = replayed_own records answer is
 of_each_own (of_each.EveryPoint hand) records answer is = points_own hand records answer is
 of_each_own (of_each.Point hand events) records answer is = point_own hand events records answer is
+of_each_own of_each.Seats records answer is = same_own answer _ is.shown tt
+of_each_own of_each.Actions records answer is = same_own answer _ is.shown tt
+of_each_own (of_each.Ids text) records answer is = same_own answer _ is.shown tt
 
 each_own : (Say : List Record → Type 0) (HaveFault : FormatFault → Type 0) (question : EachQuestion) (answer : Answer) → IsAnswerOfEach Say HaveFault question answer → IsOfInput answer.status
 each_own Say HaveFault question answer (each.NotRead fault have _ shown) = fault_own fault answer shown

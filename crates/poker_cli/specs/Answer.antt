@@ -10,10 +10,12 @@ use Rattle.command_words.specs.declared.command.Question.{Question}
 use Rattle.command_words.specs.declared.command.Question.TheVariants as questions
 use Rattle.command_words.specs.declared.notation.NotationName.{NotationName}
 use Rattle.convert_core.specs.declared.format_fault.FormatFault.{FormatFault}
+use Rattle.csv_table.specs.Rows.{table_text}
 use Rattle.hand_canon.specs.declared.record.Record.{Record}
 use Rattle.hand_canon.specs.declared.trace.Play.{Play}
 use Rattle.hand_session.specs.Printed.{session_printed}
 use Rattle.hand_session.specs.Sessions.{session_said}
+use Rattle.hand_tables.specs.Seats.{seats_table}
 use Rattle.poker_cli.specs.AnswerParts.{Answer, IsAnswerTo, done, most_input, to_excess}
 use Rattle.poker_cli.specs.Asked.{HasFile}
 use Rattle.poker_cli.specs.Compare.{IsComparedWith, to_file_excess}
@@ -28,6 +30,7 @@ use Rattle.poker_cli.specs.Judge.{IsJudgement, if_asked}
 use Rattle.poker_cli.specs.Load.{IsSummed}
 use Rattle.poker_cli.specs.NamedFormats.{in_formats_under, in_plain_formats}
 use Rattle.poker_cli.specs.Options.{AreOptionsAt}
+use Rattle.poker_cli.specs.Tables.{IsActionsReply, ids_said}
 use Rattle.poker_cli.specs.Views.{AreMessages}
 use Rattle.convert_core.specs.declared.format.Format.{Format}
 use Rattle.printed_hands.specs.Check.{check_said}
@@ -48,6 +51,9 @@ IsReplyTo (questions.Options hand events) reader plays answer =
 IsReplyTo (questions.Equity hand street) reader plays answer = IsEquityAt hand street plays answer
 IsReplyTo (questions.Judge lines) reader plays answer = ⊥
 IsReplyTo (questions.Views seat) reader plays answer = AreMessages reader seat plays answer
+IsReplyTo questions.Seats reader plays answer = answer ≡ done (table_text (seats_table plays))
+IsReplyTo questions.Actions reader plays answer = IsActionsReply plays answer
+IsReplyTo (questions.Ids text) reader plays answer = answer ≡ done (ids_said text plays)
 IsReplyTo (questions.Each question) reader plays answer = ⊥
 
 -- the answer to what is asked about such hands

@@ -19,6 +19,7 @@ use Rattle.play_event.specs.Scripts.{past_after}
 use Rattle.poker_cli.specs.AnswerParts.{Answer, done, no_hand, to_fault}
 use Rattle.poker_cli.specs.Judge.{verdict_line}
 use Rattle.poker_cli.specs.Options.{no_event}
+use Rattle.poker_cli.specs.Tables.{AreActionsOfEach, AreIdsOfEach, AreSeatsOfEach}
 use Rattle.printed_hands.specs.Steps.{begun_lines, replay_lines}
 use Rattle.replay_core.specs.Faults.{IsFaultOf}
 use Rattle.replay_core.specs.LegalPart.{IsLegalBeginning}
@@ -117,6 +118,9 @@ abbrev pub IsReplyOfEach : EachQuestion → List Record → Answer → Type 0
 IsReplyOfEach of_each.Replay records answer = AreReplayedEach records answer
 IsReplyOfEach (of_each.EveryPoint hand) records answer = IsEveryPoint hand records answer
 IsReplyOfEach (of_each.Point hand events) records answer = IsPoint hand events records answer
+IsReplyOfEach of_each.Seats records answer = AreSeatsOfEach records answer
+IsReplyOfEach of_each.Actions records answer = AreActionsOfEach records answer
+IsReplyOfEach (of_each.Ids text) records answer = AreIdsOfEach text records answer
 
 -- A hand is legal, this is its trace, and its pots are within bounds.
 pub record IsOutcomeOfLegal (hand : Record) (trace : Trace) : Type 0 where

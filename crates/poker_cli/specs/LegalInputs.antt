@@ -27,6 +27,9 @@ PrintsAll (commands.Hands from (commands.About questions.Check)) = Unit {0}
 PrintsAll (commands.Hands from (commands.About questions.Replay)) = Unit {0}
 PrintsAll (commands.Hands from (commands.About questions.Report)) = Unit {0}
 PrintsAll (commands.Hands from (commands.About questions.Session)) = Unit {0}
+PrintsAll (commands.Hands from (commands.About questions.Seats)) = Unit {0}
+PrintsAll (commands.Hands from (commands.About questions.Actions)) = Unit {0}
+PrintsAll (commands.Hands from (commands.About (questions.Ids text))) = Unit {0}
 PrintsAll command = ⊥
 
 -- The request asks for a command about an input that is within the limit: it reads as hands that
@@ -54,13 +57,16 @@ pub record HasPoint (number events : ℕ) (records : List Record) : Type 0 where
   pub beginning : IsLegalBeginning hand.setup hand.rules (script_said hand) legal
   pub reached : events ≤ legal
 
--- what hands are asked for, each by itself, is there: all hands always are, and otherwise the hand
--- with a number, and the point of it
+-- what hands are asked for, each by itself, is there: the hand with a number, and the point of it;
+-- what is asked of all hands always is
 abbrev pub IsThere : EachQuestion → List Record → Type 0
 IsThere of_each.Replay records = Unit {0}
 IsThere (of_each.EveryPoint number) records =
     (hand : Record) × (record_numbered records number ≡ Some hand)
 IsThere (of_each.Point number events) records = HasPoint number events records
+IsThere of_each.Seats records = Unit {0}
+IsThere of_each.Actions records = Unit {0}
+IsThere (of_each.Ids text) records = Unit {0}
 
 -- a status if what is asked for is not there: NoSuch, or a device could not be read, or memory ran
 -- out

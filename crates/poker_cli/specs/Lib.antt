@@ -13,12 +13,13 @@ pub mod Game
 pub mod Views
 pub mod Convert
 pub mod Judge
+pub mod FaultAnswers
+pub mod Tables
 pub mod Each
 pub mod Load
 pub mod Compare
 pub mod OtherFile
 pub mod Answer
-pub mod FaultAnswers
 pub mod Texts
 pub mod Played
 pub mod OneAnswer

@@ -7,19 +7,23 @@ ghost use Rattle.poker_cli.specs.AnswerParts.{most_input};
 ghost use Rattle.convert_core.specs.Faults.{excess_of};
 ghost use Rattle.convert_core.specs.Formats.{HaveFault, SayRecords, start_lines};
 ghost use Rattle.poker_cli.specs.FaultAnswers.{IsFaultAnswer, IsPlaysFaultAnswer, IsTextAnswer, answer_said};
+ghost use Rattle.poker_cli.specs.Tables.{IsBytesAnswer};
 
+use crate::actions::answer_with_actions;
 use crate::check::answer_with_check;
 use crate::compare::answer_with_comparison;
 use crate::convert::answer_with_hands;
 use crate::each_answer::answer_with_each;
 use crate::equity::answer_with_equity;
 use crate::game::answer_with_game;
+use crate::ids::answer_with_ids;
 use crate::judge::answer_with_verdicts;
 use crate::limits::{write_excess_line, write_limit_line};
 use crate::load::answer_to_load;
 use crate::options::answer_with_options;
 use crate::replay::answer_with_replay;
 use crate::report::answer_with_report;
+use crate::seats::answer_with_seats;
 use crate::session::answer_with_session;
 use crate::status::Status;
 use crate::views::answer_with_messages;
@@ -103,6 +107,9 @@ fn answer_to_question(
         Question::Equity { hand, street } => answer_with_equity(alloc, hand, street, from, bytes),
         Question::Judge { lines } => answer_with_verdicts(alloc, lines, from, bytes),
         Question::Views { seat } => answer_with_messages(alloc, seat, from, bytes),
+        Question::Seats => answer_with_seats(alloc, from, bytes),
+        Question::Actions => answer_with_actions(alloc, from, bytes),
+        Question::Ids { text } => answer_with_ids(alloc, text, from, bytes),
         Question::Each(question) => answer_with_each(alloc, question, from, bytes),
     }
 }
@@ -113,6 +120,19 @@ pub fn answer_with_text(alloc: Global, text: Result<String, PlaysFault>) -> Resu
 {
     match text {
         Ok(text) => Ok(done_with_text(alloc, text)),
+        Err(fault) => answer_to_plays_fault(alloc, &fault),
+    }
+}
+
+/// The answer with the bytes that are written of all hands, or with the first refused hand.
+pub fn answer_with_bytes(
+    alloc: Global,
+    bytes: Result<Vec<u8>, PlaysFault>,
+) -> Result<Answer, Memory>
+    ensures { IfOk result (λ answer. IsBytesAnswer bytes (answer_said answer)) }
+{
+    match bytes {
+        Ok(bytes) => Ok(done_with_bytes(alloc, bytes)),
         Err(fault) => answer_to_plays_fault(alloc, &fault),
     }
 }

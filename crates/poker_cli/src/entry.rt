@@ -24,7 +24,7 @@ use host_io::{Failed, InFault, Shelf, Sink, Source, read_all, write_all};
 use std::alloc::Global;
 
 const USAGE: &[u8] =
-    b"usage: handref check|replay|report|convert|game|load|views|options|session|equity|judge|compare [options]\n";
+    b"usage: handref check|replay|report|convert|game|load|views|options|session|equity|judge|compare|seats|actions|ids [options]\n";
 
 /// Runs the program on the words of its command line, without its own name. If the words name a
 /// game file, it is read from the shelf first, then the file to compare with, if there is one, then

@@ -2,6 +2,7 @@
 //! the output and the diagnostic line of the program.
 #![tactic(auto)]
 
+mod actions;
 mod answer;
 mod check;
 mod compare;
@@ -15,6 +16,8 @@ mod equity;
 mod game;
 mod game_files;
 mod hand_visitor;
+mod hand_writer;
+mod ids;
 mod judge;
 mod laws;
 mod limits;
@@ -26,6 +29,7 @@ mod other_file;
 mod process;
 mod replay;
 mod report;
+mod seats;
 mod session;
 mod status;
 mod views;

@@ -48,3 +48,12 @@ returns-in-Views c = of_question c.args.bytes.now c.args.from.now c.args.questio
 
 pub returns-in-Each : goal.returns-in-Each
 returns-in-Each c = of_question c.args.bytes.now c.args.from.now c.args.question _ c.answer_with_each.result c.in-Each.is c.answer_with_each.ensures
+
+pub returns-in-Seats : goal.returns-in-Seats
+returns-in-Seats c = of_question c.args.bytes.now c.args.from.now c.args.question _ c.answer_with_seats.result c.in-Seats.is c.answer_with_seats.ensures
+
+pub returns-in-Actions : goal.returns-in-Actions
+returns-in-Actions c = of_question c.args.bytes.now c.args.from.now c.args.question _ c.answer_with_actions.result c.in-Actions.is c.answer_with_actions.ensures
+
+pub returns-in-Ids : goal.returns-in-Ids
+returns-in-Ids c = of_question c.args.bytes.now c.args.from.now c.args.question _ c.answer_with_ids.result c.in-Ids.is c.answer_with_ids.ensures
