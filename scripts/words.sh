@@ -10,7 +10,7 @@
 slip=''
 help_is='./handref --help' examples_are_in=examples documents_are_in=docs manual_is=docs/handref.1
 
-commands='check replay report convert game load views options session equity judge compare'
+commands='check replay report convert game load views options session equity judge compare seats actions ids'
 
 # The options of a command: those that it needs, those that are optional, and flags, which have no
 # value.
@@ -18,6 +18,8 @@ options_of() {
     needs='' may='' flags=''
     case $1 in
     check | report) needs=from may=game ;;
+    seats | actions) needs=from may=game flags=each ;;
+    ids) needs=from may=game flags='each text' ;;
     replay) needs=from may=game flags=each ;;
     convert) needs='from to' may=game flags=drop-notes ;;
     game) needs=from ;;
@@ -44,6 +46,12 @@ handref: a converter and referee of recorded poker hands
                                                          each hand step by step
   handref report  --from FORMAT [--game FILE] < HANDS    hands and pots of each game, net chips of each player
   handref session --from FORMAT [--game FILE] < HANDS    each player's stack and counts over all hands
+  handref seats   --from FORMAT [--game FILE] [--each] < HANDS
+                                                         a CSV table: a row for each seat of each hand
+  handref actions --from FORMAT [--game FILE] [--each] < HANDS
+                                                         a CSV table: a row for each fold, check, call, bet and raise
+  handref ids     --from FORMAT [--game FILE] [--each] [--text] < HANDS
+                                                         a CSV table: identifiers of each hand, equal for equal hands
   handref convert --from FORMAT --to FORMAT [--game FILE] [--drop-notes] < HANDS
                                                          the same hands in another notation
   handref compare --from FORMAT --with FILE --as FORMAT [--game FILE] [--no-notes] < HANDS
@@ -74,6 +82,7 @@ FORMAT  phh     Poker Hand History (.phh and .phhs files)
 --game FILE     the game file; needed for acpc, and only for acpc
 --each          answers for each hand by itself: a refused hand up to its refused event; without --after always so
 --lines         names the line of the file on which each hand begins; not for phh
+--text          prints the texts whose digests are the identifiers
 --drop-notes    leaves out names, dates and other notes that cannot be written in the other notation
 --with FILE     the other file for compare; --as FORMAT is its notation
 --no-notes      ignores names, dates and other notes
