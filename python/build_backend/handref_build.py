@@ -13,7 +13,7 @@ import zipfile
 from typing import Any, Dict, List, Optional
 
 HERE = os.path.dirname(os.path.dirname(os.path.abspath(__file__)))
-ENDS = (".py", ".typed", ".css", ".js", ".md")
+ENDS = (".py", ".typed", ".css", ".js", ".md", ".sql")
 WHEEL = "Wheel-Version: 1.0\nGenerator: handref_build\nRoot-Is-Purelib: true\nTag: py3-none-any\n"
 COMMAND = "[console_scripts]\nhandref-py = handref.__main__:main\n"
 

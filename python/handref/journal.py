@@ -51,7 +51,7 @@ class Answer:
 @dataclass
 class Call:
     """What is to be done with each piece."""
-    command: str  # check, judge, convert, report, session, replay, views, duplicates or match
+    command: str  # the task of `handref many`
     game: handref.Game = None
     to: Optional[Notation] = None
     drop_notes: bool = False
@@ -59,12 +59,13 @@ class Call:
     layout: str = "each"  # of convert: each file, one of all (join), or one for each hand (split)
     each: bool = False  # of replay: a refused hand up to there; of convert: all hands but those
     who: Union[int, str, None] = None  # of views: the seat, or the name of an agent
+    tables: tuple[str, ...] = ()  # those that the program writes for seats, actions or ids
 
     @property
     def leaves_out(self) -> bool:
         """Whether a hand with which nothing can be done is left out, and not its whole file."""
-        return self.each if self.command == "convert" else \
-            self.keep_going and self.command in ("report", "session", "duplicates", "match")
+        return self.each if self.command == "convert" else self.keep_going and self.command in (
+            "report", "session", "duplicates", "match", "seats", "actions", "ids")
 
     def is_verdict(self, status: int, hand: Optional[int] = None) -> bool:
         """Whether what is wrong with a hand is part of the answer, and does not end the call."""

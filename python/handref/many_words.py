@@ -6,6 +6,9 @@ from typing import Any, Optional
 
 import handref
 from handref import certificate, copies, duplicates, many, outputs, page, results, texts
+from handref.databases import database
+from handref.databases import rows as hand_rows
+from handref.databases.gathered import Parquet, Printed
 from handref.importing import restore
 from handref.journal import Call
 from handref.matches import match
@@ -20,10 +23,14 @@ TASKS = {
     "session": "says how the stack of each name went over all hands",
     "replay": "writes each hand step by step",
     "duplicates": "finds hands that are there more than once, in whatever notations and files",
+    "seats": "writes a row for each seat of each hand",
+    "actions": "writes a row for each action, with the chips before it",
+    "ids": "writes the identifiers of each hand",
     "views": "writes what a seat or an agent saw of the hands of logs",
     "match": "says what each agent of matches won, with an interval",
 }
 ALONE = ("duplicates", "match")  # tasks that are commands of their own too
+TABLES = tuple(database.TABLES)  # tasks that write tables of hands
 ON = ("check", "duplicates", "match")  # tasks that go on after a problem by themselves
 
 
@@ -56,12 +63,13 @@ def _task(command: argparse.ArgumentParser, name: str) -> None:
         form.add_argument("--csv", action="store_true",
                           help="columns with commas between, and a first line with their names")
     {"convert": _convert_words, "replay": _replay_words, "views": _views_words,
-     "duplicates": _duplicates_words, "match": _match_words}.get(name, _no_words)(command)
+     "duplicates": _duplicates_words, "match": _match_words,
+     **dict.fromkeys(TABLES, _tables_words)}.get(name, _no_words)(command)
     option("-j", "--jobs", type=int, metavar="N", help="pieces at a time; else the processors")
     by_itself = "goes on after a problem, as it does without this"
     leaves_out = "leaves out hands that are not legal, and says how many of which files"
     option("-k", "--keep-going", action="store_true", help={
-        **dict.fromkeys(ON, by_itself), "report": leaves_out, "session": leaves_out,
+        **dict.fromkeys(ON, by_itself), **dict.fromkeys(("report", "session", *TABLES), leaves_out),
     }.get(name, "goes on after a file that is refused"))
     if name == "check":
         option("-x", "--exit-first", action="store_true", help="ends at the first problem")
@@ -131,11 +139,22 @@ def _match_words(command: argparse.ArgumentParser) -> None:
     option("--force", action="store_true", help="writes over a file that is no page of handref")
 
 
+def _tables_words(command: argparse.ArgumentParser) -> None:
+    option = command.add_argument
+    out = command.add_mutually_exclusive_group()
+    out.add_argument("--sqlite", metavar="FILE", help="puts the hands into this database, each once: "
+                     "ids alone, seats with their hands, or actions with both")
+    out.add_argument("--parquet", metavar="OUT", help="writes the rows to a file of Parquet, where "
+                     "pyarrow is installed")
+    option("--force", action="store_true",
+           help="writes over a file of Parquet that handref has not made")
+
+
 def run_many(given: argparse.Namespace) -> int:
     """Runs a task over all files."""
     shard = _shard(given.shard)
     _refuse_words(given, shard)
-    form = next((name for name in ("json", "tsv", "csv") if getattr(given, name, False)), "text")
+    form = _form(given)
     call = _call(given)
     # What is refused is a part of the answer of check, and of convert where all of it is wanted.
     is_said = given.task == "check" or given.task == "convert" and (given.keep_going or given.each)
@@ -151,8 +170,12 @@ def run_many(given: argparse.Namespace) -> int:
     asked = many.Asked(given.jobs, given.journal, given.resume, shard, tell, sys.stderr, form,
                        seconds=given.time, note=note, force=getattr(given, "force", False),
                        gathered=_gathered(given))
-    result = many.run(given.path, call, asked, given.notation,
-                      given.out if given.task == "convert" else "")
+    try:
+        result = many.run(given.path, call, asked, given.notation,
+                          given.out if given.task == "convert" else "")
+    finally:
+        if isinstance(asked.gathered, (Printed, database.Database)):
+            asked.gathered.close()
     if shard[1] > 1:
         return 0
     if getattr(given, "certificate", None):
@@ -168,6 +191,13 @@ def run_many(given: argparse.Namespace) -> int:
         note(many.left_out(result))
     ended = _ended(given, asked.gathered) if result.is_complete else 0
     return result.status or ended
+
+
+def _form(given: argparse.Namespace) -> str:
+    """The form of the rows that are printed: text where there are none."""
+    is_csv = given.task in TABLES and not given.sqlite and not given.parquet
+    return next((name for name in ("json", "tsv", "csv") if getattr(given, name, False)),
+                "csv" if is_csv else "text")
 
 
 def _certify(given: argparse.Namespace, result: many.Result, call: Call,
@@ -202,6 +232,10 @@ def _refuse_words(given: argparse.Namespace, shard: tuple[int, int]) -> None:
     if given.task == "duplicates" and (given.remove != bool(given.out) or given.remove
                                        and "-" in given.path):
         raise ValueError("--remove and --out go together, and not with the standard input")
+    if given.task in TABLES:
+        if (given.sqlite or given.parquet) and (given.json or given.tsv or given.csv):
+            raise ValueError("--sqlite and --parquet write no other form")
+        hand_rows.refuse_older()
     if getattr(given, "html", None):
         page.refuse_to_replace(given.html, given.force)
 
@@ -215,15 +249,22 @@ def _call(given: argparse.Namespace) -> Call:
     to: Optional[handref.Notation] = getattr(given, "to", None)
     if given.task in ("duplicates", "match"):
         to = "phh" if given.task == "duplicates" else "acpc"
+    is_database = bool(getattr(given, "sqlite", None))
     return Call(given.task, given.game, to,
                 getattr(given, "drop_notes", False), goes_on, layout, each=getattr(given, "each", False),
-                who=getattr(given, "name", None) or getattr(given, "seat", None))
+                who=getattr(given, "name", None) or getattr(given, "seat", None),
+                tables=() if given.task not in TABLES else database.TABLES[given.task]
+                if is_database else (given.task,))
 
 
 def _gathered(given: argparse.Namespace) -> Optional[results.Gathered]:
     """What takes the hands of all files together."""
     if given.task == "match":
         return match.Match(given.game, given.duplicate, bool(given.html))
+    if given.task in TABLES:
+        return database.Database(given.task, given.sqlite) if given.sqlite else \
+            Parquet(given.task, given.parquet, given.force) if given.parquet else \
+            Printed(given.task)
     return duplicates.Seen(given.no_notes, given.remove) if given.task == "duplicates" else None
 
 
@@ -232,6 +273,8 @@ def _ended(given: argparse.Namespace, gathered: Optional[results.Gathered]) -> i
     if isinstance(gathered, duplicates.Seen) and given.remove:
         is_folder = len(given.path) == 1 and os.path.isdir(given.path[0])
         print(copies.write(gathered, given.out, is_folder, given.force), file=sys.stderr, flush=True)
+    if isinstance(gathered, database.Database):
+        print(gathered.said(), file=sys.stderr, flush=True)
     if not isinstance(gathered, match.Match):
         return 0
     if given.html and gathered.agents:

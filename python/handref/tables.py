@@ -17,10 +17,12 @@ from dataclasses import replace
 from typing import Any, Callable, Iterable, Iterator, Literal, Mapping, Optional, Union
 
 import handref
-from handref import Game, Notation, inputs
+from handref import Game, Notation, hand_numbers, inputs, single_hands
+from handref.databases import rows as hand_rows
 from handref.inputs import Anything
 
-Command = Literal["check", "judge", "report", "session", "changes", "replay"]
+Command = Literal["check", "judge", "report", "session", "changes", "replay", "seats", "actions",
+                  "ids"]
 Value = Union[int, float, str, None]
 Table = Iterator[dict[str, Value]]
 
@@ -33,6 +35,7 @@ COLUMNS: Mapping[str, tuple[str, ...]] = {
                 "shown", "won"),
     "changes": ("hand", "kind", "name", "chips"),
     "replay": ("hand", "variant", "event", "text", "seat", "stack", "put", "chips"),
+    **hand_rows.COLUMNS,
 }
 VERDICTS = {1: "refused", 3: "bad input", 4: "unspelled", 5: "read fault", 7: "limit",
             8: "out of memory"}
@@ -82,6 +85,8 @@ def rows(command: Command, hands: Anything, notation: Optional[Notation] = None,
         return _sums(command, hands, notation, game)
     if command == "changes":
         return _changes(hands, notation, game)
+    if command in hand_rows.COLUMNS:
+        return _tables(command, hands, notation, game)
     return _of_hands(command, hands, notation, game, each)
 
 
@@ -89,11 +94,30 @@ def frame(command: Command, hands: Anything, notation: Optional[Notation] = None
           game: Game = None, each: bool = False) -> Any:
     """The same as a data frame of pandas. ImportError: pandas is not installed."""
     pandas: Any = importlib.import_module("pandas")
-    is_named = inputs.are_several(hands) and command in ("check", "judge", "replay")
+    is_named = inputs.are_several(hands) and command not in ("report", "session", "changes")
     found = pandas.DataFrame(list(rows(command, hands, notation, game, each)),
                              columns=["file"] * is_named + list(COLUMNS[command]))
-    texts = {"file", "verdict", "reason", "place", "said", "kind", "name", "variant", "text"}
-    return found.astype({name: "string" if name in texts else "Int64" for name in found.columns})
+    texts = {"file", *hand_rows.TEXTS} if command in hand_rows.COLUMNS else {
+        "file", "verdict", "reason", "place", "said", "kind", "name", "variant", "text"}
+    return found.astype({name: "string" if name in texts else "Float64"
+                         if name in hand_rows.FRACTIONS else "Int64" for name in found.columns})
+
+
+def _tables(command: str, hands: Anything, notation: Optional[Notation], game: Game) -> Table:
+    """The rows of seats, actions or ids, with what follows from them."""
+    def ask(data: bytes, own: Notation, rules: Game) -> hand_rows.Written:
+        return hand_rows.written([command], data, own, rules)
+
+    is_several, columns = inputs.are_several(hands), hand_rows.COLUMNS[command]
+    for own, found in inputs.each(hands, notation, game, ask, hand_rows.count):
+        are_own = None
+        if own.hands_before and columns[1] == "number":
+            units = [unit.data for unit in single_hands.units(own.data, own.notation)]
+            are_own = hand_numbers.own(units, own.notation)
+        places = range(own.hands_before + 1, own.hands_before + hand_rows.count(found) + 1)
+        for values in hand_rows.placed(hand_rows.rows(command, found), places, columns, are_own):
+            row = dict(zip(columns, values))
+            yield {"file": own.file, **row} if is_several else row
 
 
 def _of_hands(command: Command, hands: Anything, notation: Optional[Notation], game: Game,

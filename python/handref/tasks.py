@@ -7,6 +7,8 @@ from typing import Optional, Sequence
 import handref
 from handref import (HandrefError, Piece, UnclearOutput, duplicates, hand_numbers, phhs,
                      results, single_hands, tables)
+from handref.databases import parts
+from handref.databases import rows as hand_rows
 from handref.journal import Answer, Call
 from handref.matches import played, views
 from handref.sources import Region, Source
@@ -39,6 +41,9 @@ def _made(region: Region, call: Call, data: bytes, answer: Answer) -> None:
             _replayed(region, call, data, answer)
         elif call.command == "views":
             _viewed(region, call, data, answer)
+        elif call.tables:
+            _tabled(region.source, call, data, _bodies_read(region, data), answer)
+            answer.legal = answer.hands
         else:
             _summed(region, call, data, answer)
     except HandrefError as error:
@@ -149,6 +154,12 @@ def _without_some(region: Region, call: Call, data: bytes, answer: Answer,
         _identified_apart(region.source, call, legal, answer)
     elif legal is not None and call.command in ("convert", "match"):
         _converted_apart(region.source, call, legal, answer, data)
+    elif legal and call.tables:
+        bodies = [hand.data for hand in legal]
+        together = single_hands.together(bodies, region.source.notation)
+        hands = answer.hands
+        _tabled(region.source, call, together, bodies, answer)
+        answer.hands = hands
     elif legal:
         text = single_hands.together([hand.data for hand in legal], region.source.notation)
         _add_rows(region.source, call, text, answer)
@@ -277,6 +288,18 @@ def _viewed(region: Region, call: Call, data: bytes, answer: Answer) -> None:
     said = views.of(data, _game_of(region.source, call), call.who)
     answer.text = b"".join(b"%d %s\n" % each for each in said)
     answer.hands = answer.legal = len(tables.lines_of(data))
+
+
+def _tabled(source: Source, call: Call, data: bytes, bodies: Optional[list[bytes]],
+            answer: Answer) -> None:
+    """Keeps the tables of hands as the program writes them, and says how many hands these are."""
+    found = hand_rows.written(call.tables, data, source.notation, _game_of(source, call))
+    are_own = hand_numbers.own(bodies, source.notation) if bodies is not None else None
+    answer.hands = hand_rows.count(found)
+    if source.notation != "phh" and answer.hands != _hands(source, data) or \
+            are_own is not None and len(are_own) != answer.hands:
+        raise UnclearOutput(0, "the output is cut", file=source.path)
+    answer.text = parts.packed(found, are_own)
 
 
 def _hands(source: Source, data: bytes) -> int:
