@@ -1,7 +1,10 @@
 """What is made of the tables of all files: rows on the standard output, Parquet or SQLite."""
+import csv
 import importlib
+import io
 import shutil
 import tempfile
+from itertools import islice
 from typing import Any, Iterator, Optional, Sequence
 
 from handref import outputs, results
@@ -25,8 +28,19 @@ class Printed:
         for part in done.parts:
             found, are_own = opened(part)
             places = list(results.numbers_of(part, done))
-            for row in rows.placed(rows.rows(self.name, found), places, self.columns[1:], are_own):
-                self.take(out, [file, *row])
+            placed_rows = rows.placed(rows.rows(self.name, found), places, self.columns[1:], are_own)
+            self.take_all(out, ([file, *row] for row in placed_rows))
+
+    def take_all(self, out: Rows, found: Iterator[Row]) -> None:
+        """Takes the rows of a piece; those of CSV together, which is twice as fast."""
+        if out.form != "csv":
+            for row in found:
+                self.take(out, row)
+            return
+        while batch := list(islice(found, _BATCH)):
+            text = io.StringIO()
+            csv.writer(text, lineterminator="\n").writerows(batch)
+            out.output.write(text.getvalue())
 
     def take(self, out: Rows, row: Row) -> None:
         """Takes a row."""
