@@ -32,7 +32,7 @@ class Printed:
             self.take_all(out, ([file, *row] for row in placed_rows))
 
     def take_all(self, out: Rows, found: Iterator[Row]) -> None:
-        """Takes the rows of a piece; those of CSV together, which is twice as fast."""
+        """Takes the rows of a piece; those of CSV together, which is faster."""
         if out.form != "csv":
             for row in found:
                 self.take(out, row)
