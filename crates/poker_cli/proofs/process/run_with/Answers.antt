@@ -26,7 +26,7 @@ words_are : (all : Result ProcessWords Memory) (items : List (String Global))
     → IfOk all (λ words. IfSome (args_of words) (λ args. items ≡ drop 1 (into_iter_items args)))
     → IfOk all (λ words. args_of words ≡ None → items ≡ []) → IfErr all (λ memory. ⊥) → map string_bytes items ≡ words_given all
 words_are (Ok words) items is none ok = behind (args_of words) items is none
-words_are (Err memory) items is none ok = cc
+words_are (Err memory) items is none ok = absurd ok
 
 -- words that are not text are no command
 no_command : (all : Result ProcessWords Memory) (items : List (String Global)) (status : Status) → IfOk all (λ words. args_of words ≡ None → items ≡ [])
